@@ -1,0 +1,4 @@
+pub mod FixedTexts
+pub mod Places
+pub mod Texts
+pub mod Wanted

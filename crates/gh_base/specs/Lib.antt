@@ -1,0 +1,6 @@
+pub mod Fixed
+pub mod Ids
+pub mod Refusals
+pub mod Stored
+pub mod Table
+pub mod formers
