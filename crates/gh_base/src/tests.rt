@@ -1,0 +1,61 @@
+// One call of each public function, with ample memory.
+use crate::fixed::{FIXED, MAIN, WHERE};
+use crate::{Bytes, ListOf, NameId, Names, Origin, Refusal, Space, Span, TyCon};
+use std::test::Fail;
+
+#[test]
+fn a_list_keeps_its_items_in_order(rt: HostRuntime) -> Result<(), Fail> {
+    let mut list: ListOf<u32> = ListOf::new(rt.alloc());
+    assert_eq!(rt; list.as_slice().len(), 0);
+    list.push(7)?;
+    list.push(9)?;
+    list.extend_from_slice(&[1, 2])?;
+    assert_eq!(rt; list.as_slice(), [7, 9, 1, 2].as_slice());
+    let copy: Bytes = ListOf::from_slice(rt.alloc(), b"abc")?;
+    assert_eq!(rt; copy.as_slice(), b"abc".as_slice());
+    Ok(())
+}
+
+#[test]
+fn one_text_has_one_number(rt: HostRuntime) -> Result<(), Fail> {
+    let mut names = Names::new(rt.alloc())?;
+    assert_eq!(rt; names.intern(b"where")?, WHERE);
+    assert_eq!(rt; names.intern(b"main")?, MAIN);
+    let tree = names.intern(b"tree")?;
+    assert_eq!(rt; tree, NameId(FIXED.len() as u32));
+    let leaf = names.intern(b"leaf")?;
+    assert_eq!(rt; names.intern(b"tree")?, tree);
+    assert!(rt; leaf != tree);
+    Ok(())
+}
+
+#[test]
+fn a_number_gives_its_text(rt: HostRuntime) -> Result<(), Fail> {
+    let mut names = Names::new(rt.alloc())?;
+    let tree = names.intern(b"tree")?;
+    assert_eq!(rt; names.text(tree), b"tree".as_slice());
+    Ok(())
+}
+
+#[test]
+fn refusals_have_their_numbers_and_places(rt: HostRuntime) -> Result<(), Fail> {
+    let span = Span {
+        file: 1,
+        from: 4,
+        to: 9,
+    };
+    let unknown = Refusal::UnknownName { span, name: MAIN };
+    assert_eq!(rt; unknown.number(), 16);
+    assert_eq!(rt; unknown.span(), Some(span));
+    assert_eq!(rt; Refusal::NoMain.number(), 38);
+    assert_eq!(rt; Refusal::NoMain.span(), None);
+    let origin = Origin {
+        module: MAIN,
+        space: Space::Types,
+        name: WHERE,
+    };
+    let mut chain = ListOf::new(rt.alloc());
+    chain.push((origin, TyCon::ConOf(origin)))?;
+    assert_eq!(rt; Refusal::NoCase { span, chain }.number(), 34);
+    Ok(())
+}

@@ -1,0 +1,4 @@
+pub mod MemOut
+pub mod MemShelf
+pub mod Outside
+pub mod Shelves
