@@ -1,0 +1,4 @@
+pub mod Fronts
+pub mod Known
+pub mod Splits
+pub mod Texts

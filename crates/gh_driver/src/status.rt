@@ -1,0 +1,45 @@
+// How a call ends.
+use gh_base::{Refusal, Span};
+
+/// Why the run of a program fails.
+#[derive(Clone, Copy, Debug, PartialEq, Eq)]
+pub enum StopCause {
+    /// `error` was called.
+    ErrorCalled,
+    /// No pattern fits (Haskell 98 Report, 3.17.2).
+    NoMatch,
+    /// A division by zero.
+    DivideByZero,
+    /// A number that is no Unicode scalar value was to become a character.
+    NoCharacter,
+}
+
+/// The failure of a run, and the place in the program where it comes from.
+#[derive(Clone, Copy, Debug, PartialEq, Eq)]
+pub struct Stop {
+    pub cause: StopCause,
+    pub span: Span,
+}
+
+/// How a call of `genhs` ends.
+#[derive(Debug, Drop)]
+pub enum Status {
+    /// The files are a program that is accepted: `check` and `core`.
+    Accepted,
+    /// The run has ended: `run` and `sample`.
+    Ended,
+    /// The files are refused, and nothing was written to out.
+    Refused(Refusal),
+    /// The words have no meaning.
+    Usage,
+    /// The run goes on after as many reductions as were asked for.
+    OutOfSteps,
+    /// The run has failed.
+    MainFailed(Stop),
+    /// The file with this place among the files, from 0, could not be read.
+    ReadFault(u32),
+    /// An output could not be written.
+    WriteFault,
+    /// There is not enough memory.
+    NoMemory,
+}
