@@ -1,4 +1,7 @@
 pub mod Fronts
 pub mod Known
+pub mod Plain
+pub mod Runs
 pub mod Splits
 pub mod Texts
+pub mod Tops

@@ -1,0 +1,148 @@
+-- What the top call says of its words, the shelf and the outputs, by its status.
+use Rattle.std.specs.Prelude.{◌≡◌, ℕ, Bool, true, false, IsTrue, if◌then◌else◌, List, [], ◌∷◌, ◌++◌, take, Option, Some, None, ◌⊎◌}
+use Rattle.gh_base.specs.declared.Refusal.{Refusal}
+use Rattle.gh_outside.specs.Outside.{Rose, Reads, Appends, AppendsFront}
+use Rattle.gh_driver.specs.declared.check.Checked.{Checked}
+use Rattle.gh_driver.specs.declared.check.Checked.TheVariants as checked
+use Rattle.gh_driver.specs.declared.source.Source.{Source}
+use Rattle.gh_driver.specs.declared.status.Status.{Status}
+use Rattle.gh_driver.specs.declared.status.Status.TheVariants as status
+use Rattle.gh_driver.specs.declared.words.Words.{Words}
+use Rattle.gh_driver.specs.declared.words.Words.TheVariants as meaning
+use Rattle.gh_driver.specs.Words.{meaning_of, built_of}
+use Rattle.gh_driver.specs.Lines.{Table, refusal_line_of, usage_line, steps_line, read_line_of}
+use Rattle.gh_driver.specs.Check.{checked_of}
+use Rattle.gh_driver.specs.Core.{has_ended, printed_by}
+
+-- the outputs before and after, with their counts of faults
+pub record Outputs : Type 0 where
+  pub out_old : Option (List ℕ)
+  pub out_new : Option (List ℕ)
+  pub out_faults_old : ℕ
+  pub out_faults_new : ℕ
+  pub err_old : Option (List ℕ)
+  pub err_new : Option (List ℕ)
+  pub err_faults_old : ℕ
+  pub err_faults_new : ℕ
+
+-- the shelf before and after
+pub record Shelves : Type 0 where
+  pub tells : Bool
+  pub held : List ℕ → Option (List ℕ)
+  pub faults_old : List ℕ → ℕ
+  pub faults_new : List ℕ → ℕ
+
+-- the answer that is due: a status, the bytes on out and the line on err
+pub record Answer : Type 0 where
+  pub status : Status
+  pub out : List ℕ
+  pub err : List ℕ
+
+-- the words have no meaning
+abbrev pub misused : Answer
+misused = record { status = status.Usage; out = []; err = usage_line }
+
+-- the file could not be read
+abbrev pub unread : List ℕ → Answer
+unread file = record { status = status.ReadFault 0; out = []; err = read_line_of file }
+
+-- the files are refused
+abbrev pub refused_by : Table → List Source → Refusal → Answer
+refused_by table files r = record { status = status.Refused r; out = []; err = refusal_line_of table files r }
+
+-- the core run ends within n reductions, or goes on
+abbrev pub ran : List ℕ → ℕ → Answer
+ran text n =
+    if has_ended text n then record { status = status.Ended; out = printed_by text n; err = [] }
+    else record { status = status.OutOfSteps; out = printed_by text n; err = steps_line }
+
+abbrev pub checked_answer : Table → ℕ → List ℕ → List ℕ → Checked → Answer
+checked_answer table n file bytes (checked.Refused r) = refused_by table (record { name = file; bytes = bytes } ∷ []) r
+checked_answer table n file bytes (checked.Main text) = ran text n
+
+-- the answer to a run of a file with these bytes, for n reductions
+unfoldable pub answer_of : Table → ℕ → List ℕ → List ℕ → Answer
+answer_of table n file bytes = checked_answer table n file bytes (checked_of bytes)
+
+-- the answer is given: its status, its bytes and its line, and nothing else
+pub record Gives (a : Answer) (s : Status) (o : Outputs) : Type 0 where
+  pub status_is : s ≡ a.status
+  pub out_is : Appends o.out_old a.out o.out_new
+  pub err_is : Appends o.err_old a.err o.err_new
+
+-- nothing came on out, and the count of err rose
+abbrev pub ErrFails : Outputs → Type 0
+ErrFails o = (o.out_new ≡ o.out_old) × Rose o.err_faults_old o.err_faults_new
+
+-- why an answer could not be written: for a run that has ended the count of out rose, for one that goes on or has failed that of out or
+-- of err, and for all others that of err
+abbrev pub WriteCause : Status → Outputs → Type 0
+WriteCause status.Usage o = ErrFails o
+WriteCause (status.ReadFault i) o = ErrFails o
+WriteCause (status.Refused r) o = ErrFails o
+WriteCause status.Ended o = Rose o.out_faults_old o.out_faults_new
+WriteCause status.OutOfSteps o = Rose o.out_faults_old o.out_faults_new ⊎ Rose o.err_faults_old o.err_faults_new
+WriteCause (status.MainFailed stop) o = Rose o.out_faults_old o.out_faults_new ⊎ Rose o.err_faults_old o.err_faults_new
+WriteCause status.Accepted o = ⊥
+WriteCause status.WriteFault o = ⊥
+WriteCause status.NoMemory o = ⊥
+
+-- the answer could not be written; a prefix of its bytes is on out
+pub record Unwritten (a : Answer) (s : Status) (o : Outputs) : Type 0 where
+  pub status_is : s ≡ status.WriteFault
+  pub out_is : AppendsFront o.out_old a.out o.out_new
+  pub cause : WriteCause a.status o
+
+-- there was not memory enough; a prefix of the answer's bytes is on out
+pub record OutOfMemory (a : Answer) (s : Status) (o : Outputs) : Type 0 where
+  pub status_is : s ≡ status.NoMemory
+  pub out_is : AppendsFront o.out_old a.out o.out_new
+
+-- the answer is given, or could not be written, or there was not memory enough
+abbrev pub Answers : Answer → Status → Outputs → Type 0
+Answers a s o = Gives a s o ⊎ (Unwritten a s o ⊎ OutOfMemory a s o)
+
+-- the bytes of the file, where the shelf tells them
+abbrev pub IsFile : Shelves → List ℕ → List ℕ → Type 0
+IsFile shelf file bytes = IsTrue shelf.tells → Reads (shelf.held file) 1048577 bytes
+
+-- the file could not be read, and the shelf's count for it rose
+abbrev pub Unread : List ℕ → Shelves → Status → Outputs → Type 0
+Unread file shelf s o = Rose (shelf.faults_old file) (shelf.faults_new file) × Answers (unread file) s o
+
+-- the file was read, and its answer follows
+abbrev pub IsRead : Table → ℕ → List ℕ → Shelves → Status → Outputs → Type 0
+IsRead table n file shelf s o = (bytes : List ℕ) × IsFile shelf file bytes × Answers (answer_of table n file bytes) s o
+
+abbrev pub Runs : Table → ℕ → List ℕ → Shelves → Status → Outputs → Type 0
+Runs table n file shelf s o = Unread file shelf s o ⊎ IsRead table n file shelf s o
+
+-- what follows from the meaning of the words
+abbrev pub Asked : Table → Option Words → Shelves → Status → Outputs → Type 0
+Asked table None shelf s o = Answers misused s o
+Asked table (Some (meaning.Run n [])) shelf s o = ⊥
+Asked table (Some (meaning.Run n (file ∷ []))) shelf s o = Runs table n file shelf s o
+Asked table (Some (meaning.Run n (file ∷ more ∷ rest))) shelf s o = ⊥
+Asked table (Some (meaning.Check files)) shelf s o = ⊥
+Asked table (Some (meaning.Core files)) shelf s o = ⊥
+Asked table (Some (meaning.Sample k)) shelf s o = ⊥
+
+-- there was not memory enough, and nothing was written to out
+abbrev pub NoRoom : Status → Outputs → Type 0
+NoRoom s o = (s ≡ status.NoMemory) × (o.out_new ≡ o.out_old)
+
+-- the clause of the top call
+abbrev pub Told : List (List ℕ) → Table → Shelves → Status → Outputs → Type 0
+Told words table shelf s o = NoRoom s o ⊎ Asked table (built_of (meaning_of words)) shelf s o
+
+-- no count rose in the call
+pub record IsQuiet (file : List ℕ) (shelf : Shelves) (o : Outputs) : Type 0 where
+  pub reading : Rose (shelf.faults_old file) (shelf.faults_new file) → ⊥
+  pub out : Rose o.out_faults_old o.out_faults_new → ⊥
+  pub err : Rose o.err_faults_old o.err_faults_new → ⊥
+
+-- where the shelf tells what it holds and no count rises, the one answer is given, or there was not memory enough
+abbrev pub IsComplete : List (List ℕ) → Table → Shelves → Status → Outputs → Type 0
+IsComplete words table shelf s o =
+    (n : ℕ) (file : List ℕ) → built_of (meaning_of words) ≡ Some (meaning.Run n (file ∷ [])) → IsTrue shelf.tells → IsQuiet file shelf o
+    → (s ≡ status.NoMemory) ⊎ ((whole : List ℕ) × (shelf.held file ≡ Some whole) × Gives (answer_of table n file (take 1048577 whole)) s o)

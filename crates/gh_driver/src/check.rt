@@ -1,0 +1,43 @@
+// From bytes to a program or a refusal.
+ghost use Rattle.std.specs.Prelude.{◌≡◌, IfOk};
+ghost use Rattle.gh_driver.specs.Check.{checked_of, span_at};
+
+use crate::grammar::{Parsed, parse};
+use gh_base::{Fault, ListOf, Names, NoMemory, Refusal, Span};
+use gh_lexer::lex;
+use std::alloc::Global;
+
+/// A refusal, or the text of `main`.
+#[derive(Drop)]
+pub enum Checked {
+    Refused(Refusal),
+    Main(ListOf<char>),
+}
+
+fn span(from: u32, to: u32) -> Span
+    ensures { result ≡ span_at from to }
+{
+    Span { file: 1, from, to }
+}
+
+/// What the bytes of a file are.
+#[tactic(auto, unfolding(crate::specs::Check::checked_of))]
+pub fn check(alloc: Global, names: &mut Names, bytes: &[u8]) -> Result<Checked, NoMemory>
+    ensures { IfOk result (λ c. c ≡ checked_of bytes.now) }
+{
+    if bytes.len() > 1_048_576 {
+        return Ok(Checked::Refused(Refusal::FileTooLong { span: span(0, 0) }));
+    }
+    match lex(alloc, names, 1, bytes) {
+        Err(Fault::NoMemory) => Err(NoMemory),
+        Err(Fault::Refused(refusal)) => Ok(Checked::Refused(refusal)),
+        Ok(tokens) => match parse(alloc, names, tokens.as_slice()) {
+            Err(_) => Err(NoMemory),
+            Ok(Parsed::Bad(from, to)) => Ok(Checked::Refused(Refusal::NoParse {
+                span: span(from, to),
+            })),
+            Ok(Parsed::Empty) => Ok(Checked::Refused(Refusal::NoMain)),
+            Ok(Parsed::Main(text)) => Ok(Checked::Main(text)),
+        },
+    }
+}

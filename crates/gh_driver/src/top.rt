@@ -1,0 +1,285 @@
+// The top call.
+ghost use Rattle.std.specs.Prelude.{◌≡◌, ◌++◌, ◌∷◌, [], ◌⊎◌, ℕ, List, Some, None, IfOk, OnOk, OnErr};
+ghost use Rattle.gh_outside.specs.Outside.{Rose, Appends, AppendsFront};
+ghost use Rattle.gh_driver.specs.Lines.{IsNamed, IsIn, steps_line, usage_line};
+ghost use Rattle.gh_driver.specs.Check.{checked_of};
+ghost use Rattle.gh_base.specs.Refusals.{span_of};
+ghost use Rattle.gh_driver.specs.Top.{Outputs, Shelves, Answers, misused, unread, refused_by, ran, checked_answer, answer_of, Asked, Told, IsComplete, NoRoom, Runs};
+
+use crate::check::{Checked, check};
+use crate::lines::{read_line, refusal_line};
+use crate::run::{RunFault, run_main};
+use crate::source::Source;
+use crate::status::Status;
+use crate::words::{Words, WordsFault, read_words};
+use gh_base::{Bytes, ListOf, Names, NoMemory, Refusal};
+use gh_outside::{Out, OutFault, Shelf, ShelfFault};
+use std::alloc::Global;
+
+const USAGE: &[u8] =
+    b"usage: genhs check FILES, core FILES, run [--steps N] FILES, or sample N\n";
+
+// The lines of a failed write and of want of memory are tried once.
+fn try_line<E: Out>(err: &mut E, text: &[u8]) {
+    let _ = err.put(text);
+}
+
+fn out_of_memory<E: Out>(err: &mut E) -> Status
+    ensures { result ≡ Status.NoMemory }
+{
+    try_line(err, b"genhs: out of memory\n");
+    Status::NoMemory
+}
+
+// Runs a program, and says how the run has ended.
+#[tactic(auto, unfolding(crate::specs::Lines::steps_line), using(crate::proofs::Tops::ran_going, crate::proofs::Tops::ran_unsaid, crate::proofs::Tops::ran_unwritten, crate::proofs::Tops::ran_out_of_memory))]
+fn run_text<O: Out, E: Out>(
+    alloc: Global,
+    text: &[char],
+    steps: u32,
+    out: &mut O,
+    err: &mut E,
+) -> Status
+    ensures { Answers (ran text.now steps) result (record {
+      out_old = O.written out.old;
+      out_new = O.written out.new;
+      out_faults_old = O.faults out.old;
+      out_faults_new = O.faults out.new;
+      err_old = E.written err.old;
+      err_new = E.written err.new;
+      err_faults_old = E.faults err.old;
+      err_faults_new = E.faults err.new;
+    }) }
+{
+    match run_main(alloc, out, text, steps) {
+        Ok(true) => Status::Ended,
+        Ok(false) => match err.put(b"genhs: out of steps\n") {
+            Ok(()) => Status::OutOfSteps,
+            Err(OutFault::Failed) => Status::WriteFault,
+        },
+        Err(RunFault::NoMemory) => out_of_memory(err),
+        Err(RunFault::Failed) => {
+            try_line(err, b"genhs: cannot write\n");
+            Status::WriteFault
+        }
+    }
+}
+
+// Puts the line of a refusal.
+#[tactic(auto, using(crate::proofs::Tops::nothing_added, crate::proofs::Tops::no_front))]
+fn refuse<O: Out, E: Out>(
+    alloc: Global,
+    names: &Names,
+    files: &ListOf<Source>,
+    refusal: Refusal,
+    out: &mut O,
+    err: &mut E,
+) -> Status
+    requires named { IsNamed names.now refusal }
+    requires placed { IsIn files.now (span_of refusal) }
+    ensures { Answers (refused_by names.now files.now refusal) result (record {
+      out_old = O.written out.old;
+      out_new = O.written out.new;
+      out_faults_old = O.faults out.old;
+      out_faults_new = O.faults out.new;
+      err_old = E.written err.old;
+      err_new = E.written err.new;
+      err_faults_old = E.faults err.old;
+      err_faults_new = E.faults err.new;
+    }) }
+{
+    let _ = &out;
+    let Ok(line) = refusal_line(alloc, names, files, &refusal) else {
+        return out_of_memory(err);
+    };
+    match err.put(line.as_slice()) {
+        Ok(()) => Status::Refused(refusal),
+        Err(OutFault::Failed) => Status::WriteFault,
+    }
+}
+
+fn one_source(alloc: Global, file: &[u8], bytes: Bytes) -> Result<ListOf<Source>, NoMemory>
+    ensures { IfOk result (λ files. files ≡ record { name = file.now; bytes = bytes } ∷ []) }
+{
+    let name = ListOf::from_slice(alloc, file)?;
+    let mut files = ListOf::new(alloc);
+    files.push(Source { name, bytes })?;
+    Ok(files)
+}
+
+// Answers a run of a file that was read.
+#[tactic(auto, unfolding(crate::specs::Top::answer_of), using(crate::proofs::Plain::refusal_named, crate::proofs::Plain::refusal_placed, crate::proofs::Tops::answer_refused, crate::proofs::Tops::answer_ran))]
+fn run_bytes<O: Out, E: Out>(
+    alloc: Global,
+    names: &mut Names,
+    steps: u32,
+    file: &[u8],
+    bytes: Bytes,
+    out: &mut O,
+    err: &mut E,
+) -> Status
+    ensures { NoRoom result (record {
+      out_old = O.written out.old;
+      out_new = O.written out.new;
+      out_faults_old = O.faults out.old;
+      out_faults_new = O.faults out.new;
+      err_old = E.written err.old;
+      err_new = E.written err.new;
+      err_faults_old = E.faults err.old;
+      err_faults_new = E.faults err.new;
+    }) ⊎ Answers (answer_of names.new steps file.now bytes) result (record {
+      out_old = O.written out.old;
+      out_new = O.written out.new;
+      out_faults_old = O.faults out.old;
+      out_faults_new = O.faults out.new;
+      err_old = E.written err.old;
+      err_new = E.written err.new;
+      err_faults_old = E.faults err.old;
+      err_faults_new = E.faults err.new;
+    }) }
+{
+    match check(alloc, names, bytes.as_slice()) {
+        Err(_) => out_of_memory(err),
+        Ok(Checked::Main(text)) => run_text(alloc, text.as_slice(), steps, out, err),
+        Ok(Checked::Refused(refusal)) => {
+            let Ok(files) = one_source(alloc, file, bytes) else {
+                return out_of_memory(err);
+            };
+            refuse(alloc, names, &files, refusal, out, err)
+        }
+    }
+}
+
+// Says that the file could not be read.
+#[tactic(auto, using(crate::proofs::Tops::nothing_added, crate::proofs::Tops::no_front))]
+fn cannot_read<O: Out, E: Out>(alloc: Global, file: &[u8], out: &mut O, err: &mut E) -> Status
+    ensures { Answers (unread file.now) result (record {
+      out_old = O.written out.old;
+      out_new = O.written out.new;
+      out_faults_old = O.faults out.old;
+      out_faults_new = O.faults out.new;
+      err_old = E.written err.old;
+      err_new = E.written err.new;
+      err_faults_old = E.faults err.old;
+      err_faults_new = E.faults err.new;
+    }) }
+{
+    let _ = &out;
+    let Ok(line) = read_line(alloc, file) else {
+        return out_of_memory(err);
+    };
+    match err.put(line.as_slice()) {
+        Ok(()) => Status::ReadFault(0),
+        Err(OutFault::Failed) => Status::WriteFault,
+    }
+}
+
+// Reads the file and runs it.
+fn run_file<S: Shelf, O: Out, E: Out>(
+    alloc: Global,
+    names: &mut Names,
+    steps: u32,
+    file: &Bytes,
+    shelf: &mut S,
+    out: &mut O,
+    err: &mut E,
+) -> Status
+    ensures { NoRoom result (record {
+      out_old = O.written out.old;
+      out_new = O.written out.new;
+      out_faults_old = O.faults out.old;
+      out_faults_new = O.faults out.new;
+      err_old = E.written err.old;
+      err_new = E.written err.new;
+      err_faults_old = E.faults err.old;
+      err_faults_new = E.faults err.new;
+    }) ⊎ Runs names.new steps file.now (record { tells = S.tells shelf.old; held = S.held shelf.old; faults_old = S.faults shelf.old; faults_new = S.faults shelf.new }) result (record {
+      out_old = O.written out.old;
+      out_new = O.written out.new;
+      out_faults_old = O.faults out.old;
+      out_faults_new = O.faults out.new;
+      err_old = E.written err.old;
+      err_new = E.written err.new;
+      err_faults_old = E.faults err.old;
+      err_faults_new = E.faults err.new;
+    }) }
+{
+    match shelf.read_file(file, 1_048_577) {
+        Ok(bytes) => run_bytes(alloc, names, steps, file.as_slice(), bytes, out, err),
+        Err(ShelfFault::Failed) => cannot_read(alloc, file.as_slice(), out, err),
+        Err(ShelfFault::NoMemory) => out_of_memory(err),
+    }
+}
+
+// Answers the words.
+#[tactic(auto, unfolding(crate::specs::Lines::usage_line), using(crate::proofs::Tops::nothing_added, crate::proofs::Tops::no_front))]
+fn answer<S: Shelf, O: Out, E: Out>(
+    alloc: Global,
+    names: &mut Names,
+    words: &[Bytes],
+    shelf: &mut S,
+    out: &mut O,
+    err: &mut E,
+) -> Status
+    ensures { Told words.now names.new (record { tells = S.tells shelf.old; held = S.held shelf.old; faults_old = S.faults shelf.old; faults_new = S.faults shelf.new }) result (record {
+      out_old = O.written out.old;
+      out_new = O.written out.new;
+      out_faults_old = O.faults out.old;
+      out_faults_new = O.faults out.new;
+      err_old = E.written err.old;
+      err_new = E.written err.new;
+      err_faults_old = E.faults err.old;
+      err_faults_new = E.faults err.new;
+    }) }
+{
+    match read_words(alloc, words) {
+        Err(WordsFault::NoMemory) => out_of_memory(err),
+        Err(WordsFault::Usage) => match err.put(USAGE) {
+            Ok(()) => Status::Usage,
+            Err(OutFault::Failed) => Status::WriteFault,
+        },
+        Ok(Words::Run { steps, files }) => match files.as_slice() {
+            [file] => run_file(alloc, names, steps, file, shelf, out, err),
+            [] => unreachable!(),
+            [_first, _second, ..] => unreachable!(),
+        },
+        Ok(Words::Check(_)) => unreachable!(),
+        Ok(Words::Core(_)) => unreachable!(),
+        Ok(Words::Sample(_)) => unreachable!(),
+    }
+}
+
+/// Does what the words behind the program's name ask for, and answers how it ended. Each file is read to its end before
+/// any is checked; a refused program writes nothing to `out`; every line on `err` is the one that the status stands for.
+pub fn genhs<S: Shelf, O: Out, E: Out>(
+    alloc: Global,
+    names: &mut Names,
+    words: &[Bytes],
+    shelf: &mut S,
+    out: &mut O,
+    err: &mut E,
+) -> Status
+    ensures told { Told words.now names.new (record { tells = S.tells shelf.old; held = S.held shelf.old; faults_old = S.faults shelf.old; faults_new = S.faults shelf.new }) result (record {
+      out_old = O.written out.old;
+      out_new = O.written out.new;
+      out_faults_old = O.faults out.old;
+      out_faults_new = O.faults out.new;
+      err_old = E.written err.old;
+      err_new = E.written err.new;
+      err_faults_old = E.faults err.old;
+      err_faults_new = E.faults err.new;
+    }) }
+    // Where the words have a meaning, the shelf tells what it holds and no count rises, there is one answer.
+    ensures complete { IsComplete words.now names.new (record { tells = S.tells shelf.old; held = S.held shelf.old; faults_old = S.faults shelf.old; faults_new = S.faults shelf.new }) result (record {
+      out_old = O.written out.old;
+      out_new = O.written out.new;
+      out_faults_old = O.faults out.old;
+      out_faults_new = O.faults out.new;
+      err_old = E.written err.old;
+      err_new = E.written err.new;
+      err_faults_old = E.faults err.old;
+      err_faults_new = E.faults err.new;
+    }) }
+{
+    answer(alloc, names, words, shelf, out, err)
+}
