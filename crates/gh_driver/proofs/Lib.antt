@@ -1,4 +1,5 @@
 pub mod Fronts
+pub mod Keeping
 pub mod Known
 pub mod Plain
 pub mod Runs

@@ -1,6 +1,7 @@
 pub mod Check
 pub mod Core
 pub mod Grammar
+pub mod Keeping
 pub mod Keeps
 pub mod Lines
 pub mod Meaning

@@ -25,7 +25,7 @@ act text p = act_on text p.demand p.printed
 
 abbrev pub acts : ℕ → List ℕ → Point → Point
 acts zero text p = p
-acts (suc n) text p = act text (acts n text p)
+acts (suc n) text p = acts n text (act text p)
 
 abbrev pub state_at : Demand → State
 state_at Name = Running

@@ -3,6 +3,7 @@
 
 mod check;
 mod grammar;
+mod laws;
 mod lines;
 mod run;
 mod source;
@@ -12,6 +13,7 @@ mod words;
 
 pub use status::{Status, Stop, StopCause};
 pub use top::genhs;
+pub use laws::core_keeps_meaning;
 pub use lines::refusal_line;
 pub use words::{Words, WordsFault, read_words};
 pub use source::Source;
