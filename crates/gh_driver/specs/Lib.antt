@@ -1,4 +1,5 @@
 pub mod Check
+pub mod Codes
 pub mod Core
 pub mod Grammar
 pub mod Keeping

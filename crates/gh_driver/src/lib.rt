@@ -17,3 +17,6 @@ pub use laws::core_keeps_meaning;
 pub use lines::refusal_line;
 pub use words::{Words, WordsFault, read_words};
 pub use source::Source;
+
+#[cfg(test)]
+mod tests;

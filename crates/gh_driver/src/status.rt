@@ -1,4 +1,7 @@
 // How a call ends.
+ghost use Rattle.std.specs.Prelude.{◌≡◌};
+ghost use Rattle.gh_driver.specs.Codes.{code_of};
+
 use gh_base::{Refusal, Span};
 
 /// Why the run of a program fails.
@@ -42,4 +45,23 @@ pub enum Status {
     WriteFault,
     /// There is not enough memory.
     NoMemory,
+}
+
+impl Status {
+    /// The exit status of the process, 0 to 6.
+    pub fn code(&self) -> u8
+        ensures { result ≡ code_of self.now }
+    {
+        match self {
+            Status::Accepted => 0,
+            Status::Ended => 0,
+            Status::Refused(_) => 1,
+            Status::Usage => 2,
+            Status::OutOfSteps => 3,
+            Status::MainFailed(_) => 4,
+            Status::ReadFault(_) => 5,
+            Status::WriteFault => 5,
+            Status::NoMemory => 6,
+        }
+    }
 }

@@ -1,0 +1,231 @@
+// The top call over shelves and outputs in memory.
+use crate::genhs;
+use gh_base::{Bytes, ListOf, Names};
+use gh_outside::{MemOut, MemShelf};
+use std::alloc::Global;
+use std::test::Fail;
+
+const HELLO: &[u8] = b"module Main where { main = \"hi\" }";
+const USAGE: &[u8] =
+    b"usage: genhs check FILES, core FILES, run [--steps N] FILES, or sample N\n";
+
+#[derive(Drop)]
+struct Outcome {
+    code: u8,
+    out: MemOut,
+    err: MemOut,
+    faults: usize,
+}
+
+fn words(alloc: Global, texts: &[&[u8]]) -> Result<ListOf<Bytes>, Fail> {
+    let mut words = ListOf::new(alloc);
+    for text in texts {
+        words.push(ListOf::from_slice(alloc, text)?)?;
+    }
+    Ok(words)
+}
+
+fn call(
+    alloc: Global,
+    texts: &[&[u8]],
+    name: &[u8],
+    bytes: Bytes,
+    failing: &[u32],
+) -> Result<Outcome, Fail> {
+    let mut names = Names::new(alloc)?;
+    let words = words(alloc, texts)?;
+    let mut files = ListOf::new(alloc);
+    files.push((ListOf::from_slice(alloc, name)?, bytes))?;
+    let mut shelf = MemShelf::new(alloc, files, ListOf::new(alloc));
+    let mut out = MemOut::new(alloc, 100_000, ListOf::from_slice(alloc, failing)?)?;
+    let mut err = MemOut::new(alloc, 10_000, ListOf::new(alloc))?;
+    let status = genhs(
+        alloc,
+        &mut names,
+        words.as_slice(),
+        &mut shelf,
+        &mut out,
+        &mut err,
+    );
+    let faults = shelf.faults(b"b.hs");
+    Ok(Outcome {
+        code: status.code(),
+        out,
+        err,
+        faults,
+    })
+}
+
+fn run_hello(alloc: Global, texts: &[&[u8]]) -> Result<Outcome, Fail> {
+    call(alloc, texts, b"a.hs", ListOf::from_slice(alloc, HELLO)?, &[])
+}
+
+fn run_file(alloc: Global, text: &[u8]) -> Result<Outcome, Fail> {
+    let words: [&[u8]; 2] = [b"run", b"a.hs"];
+    call(alloc, &words, b"a.hs", ListOf::from_slice(alloc, text)?, &[])
+}
+
+// The first program with spaces behind it, up to so many bytes.
+fn padded(alloc: Global, length: usize) -> Result<Bytes, Fail> {
+    let mut bytes = ListOf::from_slice(alloc, HELLO)?;
+    for _ in HELLO.len()..length {
+        bytes.push(b' ')?;
+    }
+    Ok(bytes)
+}
+
+#[test]
+fn one_string_is_printed(rt: HostRuntime) -> Result<(), Fail> {
+    let call = run_hello(rt.alloc(), &[b"run", b"--steps", b"200000", b"a.hs"])?;
+    assert_eq!(rt; call.code, 0);
+    assert_eq!(rt; call.out.bytes(), b"hi".as_slice());
+    assert_eq!(rt; call.err.bytes(), b"".as_slice());
+    Ok(())
+}
+
+#[test]
+fn each_budget_prints_its_prefix(rt: HostRuntime) -> Result<(), Fail> {
+    let budgets: [(&[u8], &[u8], u8); 6] = [
+        (b"0", b"", 3),
+        (b"1", b"", 3),
+        (b"2", b"h", 3),
+        (b"3", b"hi", 0),
+        (b"4", b"hi", 0),
+        (b"2000000", b"hi", 0),
+    ];
+    for (steps, out, code) in budgets {
+        let call = run_hello(rt.alloc(), &[b"run", b"--steps", steps, b"a.hs"])?;
+        assert_eq!(rt; call.code, code);
+        assert_eq!(rt; call.out.bytes(), out);
+        let line: &[u8] = if code == 3 {
+            b"genhs: out of steps\n"
+        } else {
+            b""
+        };
+        assert_eq!(rt; call.err.bytes(), line);
+    }
+    Ok(())
+}
+
+#[test]
+fn refusals_have_their_lines(rt: HostRuntime) -> Result<(), Fail> {
+    let files: [(&[u8], &[u8]); 14] = [
+        (b"module Main where { }", b"genhs: 38 NoMain\n"),
+        (b"module Main where { ; ; }", b"genhs: 38 NoMain\n"),
+        (b"", b"a.hs:1:1: 9 NoParse\n"),
+        (b"module Main where", b"a.hs:1:1: 9 NoParse\n"),
+        (b"module Other where { main = \"a\" }", b"a.hs:1:1: 9 NoParse\n"),
+        (b"module Main where { x }", b"a.hs:1:21: 9 NoParse\n"),
+        (b"module Main where {\n  ;\n  main = \"a\";\n\tmain = \"b\" }", b"a.hs:4:9: 9 NoParse\n"),
+        (b"module Main where { main = \"a\" } x", b"a.hs:1:21: 9 NoParse\n"),
+        (b"module Main where { main = \"a\"", b"a.hs:1:21: 9 NoParse\n"),
+        (b"module Main where { main = \"a\" } ; }", b"a.hs:1:21: 9 NoParse\n"),
+        (b"module Main where { } }", b"a.hs:1:21: 9 NoParse\n"),
+        (b"module Main where {", b"a.hs:1:20: 9 NoParse\n"),
+        (b"module Main where { main = \"a }", b"a.hs:1:28: 2 NoToken\n"),
+        (b"module Main where {\r\n main = ? }", b"a.hs:2:9: 2 NoToken\n"),
+    ];
+    for (file, line) in files {
+        let call = run_file(rt.alloc(), file)?;
+        assert_eq!(rt; call.err.bytes(), line);
+        assert_eq!(rt; call.code, 1);
+        assert_eq!(rt; call.out.bytes(), b"".as_slice());
+    }
+    Ok(())
+}
+
+#[test]
+fn empty_bindings_are_allowed(rt: HostRuntime) -> Result<(), Fail> {
+    let call = run_file(rt.alloc(), b"module Main where {;\n;main\t= \"a' b\";;}\n")?;
+    assert_eq!(rt; call.code, 0);
+    assert_eq!(rt; call.out.bytes(), b"a' b".as_slice());
+    Ok(())
+}
+
+#[test]
+fn a_file_may_have_a_megabyte(rt: HostRuntime) -> Result<(), Fail> {
+    let words: [&[u8]; 2] = [b"run", b"a.hs"];
+    let most = padded(rt.alloc(), 1_048_576)?;
+    let whole = call(rt.alloc(), &words, b"a.hs", most, &[])?;
+    assert_eq!(rt; whole.code, 0);
+    assert_eq!(rt; whole.out.bytes(), b"hi".as_slice());
+    let more = padded(rt.alloc(), 1_048_577)?;
+    let long = call(rt.alloc(), &words, b"a.hs", more, &[])?;
+    assert_eq!(rt; long.code, 1);
+    assert_eq!(rt; long.err.bytes(), b"a.hs: 36 FileTooLong\n".as_slice());
+    Ok(())
+}
+
+#[test]
+fn words_without_a_meaning_are_usage(rt: HostRuntime) -> Result<(), Fail> {
+    let lines: [&[&[u8]]; 14] = [
+        &[],
+        &[b"run"],
+        &[b"fly", b"a.hs"],
+        &[b"check", b"--steps", b"5", b"a.hs"],
+        &[b"run", b"--steps", b"2000001", b"a.hs"],
+        &[b"run", b"--steps", b"1", b"--steps", b"1", b"a.hs"],
+        &[b"run", b"--steps", b"", b"a.hs"],
+        &[b"run", b"--steps", b"00000001", b"a.hs"],
+        &[b"run", b"a.hs", b"--steps"],
+        &[b"run", b"-a.hs"],
+        &[b"run", b"\xff"],
+        &[b"sample", b"0"],
+        &[b"sample", b"41"],
+        &[b"--help"],
+    ];
+    for texts in lines {
+        let call = run_hello(rt.alloc(), texts)?;
+        assert_eq!(rt; call.code, 2);
+        assert_eq!(rt; call.err.bytes(), USAGE);
+        assert_eq!(rt; call.out.bytes(), b"".as_slice());
+    }
+    Ok(())
+}
+
+#[test]
+fn an_option_may_stand_anywhere(rt: HostRuntime) -> Result<(), Fail> {
+    let lines: [&[&[u8]]; 4] = [
+        &[b"run", b"--steps=0", b"--", b"-a.hs"],
+        &[b"--steps", b"0", b"run", b"--", b"-a.hs"],
+        &[b"run", b"--steps", b"0000000", b"--", b"-a.hs"],
+        &[b"--steps=0", b"--", b"run", b"-a.hs"],
+    ];
+    for texts in lines {
+        let bytes = ListOf::from_slice(rt.alloc(), HELLO)?;
+        let call = call(rt.alloc(), texts, b"-a.hs", bytes, &[])?;
+        assert_eq!(rt; call.code, 3);
+        assert_eq!(rt; call.out.bytes(), b"".as_slice());
+    }
+    Ok(())
+}
+
+#[test]
+fn a_file_that_is_not_there_cannot_be_read(rt: HostRuntime) -> Result<(), Fail> {
+    let call = run_hello(rt.alloc(), &[b"run", b"b.hs"])?;
+    assert_eq!(rt; call.code, 5);
+    assert_eq!(rt; call.err.bytes(), b"genhs: cannot read b.hs\n".as_slice());
+    assert_eq!(rt; call.out.bytes(), b"".as_slice());
+    assert_eq!(rt; call.faults, 1);
+    Ok(())
+}
+
+#[test]
+fn a_failing_output_keeps_a_prefix(rt: HostRuntime) -> Result<(), Fail> {
+    let mut file = ListOf::from_slice(rt.alloc(), b"module Main where { main = \"")?;
+    for _ in 0..1500 {
+        file.push(b'x')?;
+    }
+    file.extend_from_slice(b"\" }")?;
+    let words: [&[u8]; 2] = [b"run", b"a.hs"];
+    let copy = ListOf::from_slice(rt.alloc(), file.as_slice())?;
+    let first = call(rt.alloc(), &words, b"a.hs", file, &[0])?;
+    assert_eq!(rt; first.code, 5);
+    assert_eq!(rt; first.out.bytes().len(), 0);
+    assert_eq!(rt; first.err.bytes(), b"genhs: cannot write\n".as_slice());
+    let second = call(rt.alloc(), &words, b"a.hs", copy, &[1])?;
+    assert_eq!(rt; second.code, 5);
+    assert_eq!(rt; second.out.bytes().len(), 1000);
+    assert_eq!(rt; second.err.bytes(), b"genhs: cannot write\n".as_slice());
+    Ok(())
+}
