@@ -1,9 +1,9 @@
 -- Tokens whose names are of the table, and their lexemes.
 use Rattle.std.proofs.Common.{◌≡◌, ℕ, zero, suc, ◌+◌, ◌<◌, ◌≤◌, List, [], ◌∷◌, ◌++◌, take, drop, length, get_or, map, Option, Some, None, refl, sym, ap, ◌∙◌, arith, subst, add-one, append_assoc, append-nil}
 use Rattle.std.proofs.lemmas.List.{map-append}
-use Rattle.gh_lexer.specs.declared.token.Token.{Token}
-use Rattle.gh_lexer.specs.Lexeme.{Lexeme}
-use Rattle.gh_lexer.specs.Seen.{Table, lexeme_in, lexemes_in, IsKnown, AllKnown}
+use Rattle.gh_lexer.specs.declared.Token.{Token}
+use Rattle.gh_first_form.specs.Lexeme.{Lexeme}
+use Rattle.gh_first_form.specs.Seen.{Table, lexeme_in, lexemes_in, IsKnown, AllKnown}
 use Rattle.gh_driver.specs.Grammar.{last_end, last_close, front_of, back_of, judged_all, items_from, body_of, bad_at}
 use Rattle.gh_driver.specs.declared.grammar.Parsed.{Parsed}
 use Rattle.gh_driver.specs.declared.grammar.Parsed.TheVariants.{Bad}

@@ -4,8 +4,8 @@ use Rattle.std.specs.Prelude.{nat_lt}
 use Rattle.gh_base.specs.declared.Refusal.{Refusal}
 use Rattle.gh_base.specs.Refusals.{span_of}
 use Rattle.gh_base.specs.declared.Refusal.TheVariants as refusal
-use Rattle.gh_lexer.specs.Lexeme.{Lexeme}
-use Rattle.gh_lexer.specs.Reading.{reading}
+use Rattle.gh_first_form.specs.Lexeme.{Lexeme}
+use Rattle.gh_first_form.specs.Reading.{reading}
 use Rattle.gh_driver.specs.declared.check.Checked.{Checked}
 use Rattle.gh_driver.specs.declared.check.Checked.TheVariants as checked
 use Rattle.gh_driver.specs.declared.grammar.Parsed.{Parsed}

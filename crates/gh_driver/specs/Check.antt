@@ -3,8 +3,8 @@ use Rattle.std.specs.Prelude.{ℕ, ◌+◌, length, nat_lt, if◌then◌else◌,
 use Rattle.gh_base.specs.declared.Span.{Span}
 use Rattle.gh_base.specs.declared.Refusal.{Refusal}
 use Rattle.gh_base.specs.declared.Refusal.TheVariants as refusal
-use Rattle.gh_lexer.specs.Lexeme.{Lexeme}
-use Rattle.gh_lexer.specs.Reading.{reading}
+use Rattle.gh_first_form.specs.Lexeme.{Lexeme}
+use Rattle.gh_first_form.specs.Reading.{reading}
 use Rattle.gh_driver.specs.declared.grammar.Parsed.{Parsed}
 use Rattle.gh_driver.specs.declared.grammar.Parsed.TheVariants as parsed
 use Rattle.gh_driver.specs.declared.check.Checked.{Checked}

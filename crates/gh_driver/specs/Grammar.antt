@@ -1,7 +1,7 @@
 -- The grammar of programs that bind `main` to a string, and their items.
 use Rattle.std.specs.Prelude.{ℕ, ◌+◌, ◌==◌, ◌&&◌, Bool, true, false, if◌then◌else◌, List, [], ◌∷◌, ◌++◌, take, drop, Option, Some, None, codes}
 use Rattle.std.specs.Str.{bytes_eq}
-use Rattle.gh_lexer.specs.Lexeme.{Piece, VarId, ConId, VarSym, Word, Mark, Str, Unread, Lexeme}
+use Rattle.gh_first_form.specs.Lexeme.{Piece, VarId, ConId, VarSym, Word, Mark, Str, Unread, Lexeme}
 use Rattle.gh_driver.specs.declared.grammar.Sort.{Sort}
 use Rattle.gh_driver.specs.declared.grammar.Sort.TheVariants as sort
 use Rattle.gh_driver.specs.declared.grammar.Form.{Form}

@@ -11,9 +11,9 @@ use Rattle.gh_base.specs.declared.Refusal.{Refusal}
 use Rattle.gh_base.specs.declared.Refusal.TheVariants.{NotUtf8, NoToken, OpenComment, OpenText, NumberOutOfRange, NameTooLong, BadLayout, Unclosed, NoParse, TooDeep, FixityClash, UnknownModule, CyclicImports, NotExported, DoubleModule, UnknownName, AmbiguousName, DoubleDefinition, UnequalArity, RepeatedVariable, ConstructorArity, SignatureAlone, SynonymCycle, SynonymArity, KindClash, KindTooLarge, TypeClash, TypeTooLarge, BadSignature, NotClosed, BadCaseHead, DoubleCase, MissingDependency, NoCase, BadExtends, FileTooLong, TooManyFiles, NoMain, MainNotText, LimitPassed}
 use Rattle.gh_base.specs.Ids.{text_in}
 use Rattle.gh_base.specs.Refusals.{number_of, span_of}
-use Rattle.gh_lexer.specs.declared.position.Position.{Position}
-use Rattle.gh_lexer.specs.declared.position.TheConstants.{START}
-use Rattle.gh_lexer.specs.Position.{moved_over}
+use Rattle.gh_first_form.specs.declared.position.Position.{Position}
+use Rattle.gh_first_form.specs.declared.position.TheConstants.{START}
+use Rattle.gh_first_form.specs.Position.{moved_over}
 use Rattle.gh_driver.specs.declared.source.Source.{Source}
 
 abbrev pub Table : Type 0

@@ -4,7 +4,7 @@ ghost use Rattle.gh_driver.specs.Check.{checked_of, span_at};
 
 use crate::grammar::{Parsed, parse};
 use gh_base::{Fault, ListOf, Names, NoMemory, Refusal, Span};
-use gh_lexer::lex;
+use gh_first_form::lex;
 use std::alloc::Global;
 
 /// A refusal, or the text of `main`.

@@ -2,8 +2,8 @@
 ghost use Rattle.std.specs.Prelude.{◌≡◌, ◌<◌, ◌≤◌, ◌++◌, ◌+◌, [], ℕ, List, length, take, drop, map, IfOk, IfSome, Some, None, option_map};
 ghost use Rattle.std.specs.Str.{bytes_eq};
 ghost use Rattle.gh_base.specs.Ids.{text_in};
-ghost use Rattle.gh_lexer.specs.Seen.{piece_in, lexeme_in, lexemes_in, IsKnown, AllKnown};
-ghost use Rattle.gh_lexer.specs.Lexeme.{VarId, ConId};
+ghost use Rattle.gh_first_form.specs.Seen.{piece_in, lexeme_in, lexemes_in, IsKnown, AllKnown};
+ghost use Rattle.gh_first_form.specs.Lexeme.{VarId, ConId};
 ghost use Rattle.gh_driver.specs.Grammar.{sort_of, word_sort_of, mark_sort_of, has_sort, code_of, bad_at, last_end, last_close, form_of, bound_by, going_on, program_of, last_item, item, items_from, judged_all, body_of, header_of, parse_of};
 
 use gh_base::{ListOf, NameId, Names, NoMemory};

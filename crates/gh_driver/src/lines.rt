@@ -6,7 +6,7 @@ ghost use Rattle.gh_driver.specs.Lines.{variant_of, limit_of, tycon_of, pair_of,
 
 use crate::source::Source;
 use gh_base::{Bytes, Limit, ListOf, NameId, Names, NoMemory, Origin, Refusal, Span, TyCon};
-use gh_lexer::{START, moved};
+use gh_first_form::{START, moved};
 use itoa::Buffer;
 use std::alloc::Global;
 

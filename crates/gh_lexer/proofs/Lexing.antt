@@ -1,145 +1,114 @@
 -- What the loop over a file keeps.
-use Rattle.std.proofs.Common.{◌≡◌, ℕ, zero, suc, ◌+◌, ◌-◌, ◌<◌, ◌≤◌, Bool, true, false, if◌then◌else◌, List, [], ◌∷◌, ◌++◌, length, map, take, drop, get_or, Option, Some, None, Result, Ok, Err, refl, sym, ap, ◌∙◌, arith, append_assoc, length-append, length-drop, drop-drop, append-nil, add-one, subst}
+use Rattle.std.proofs.Common.{◌≡◌, ℕ, zero, suc, ◌+◌, ◌*◌, ◌<◌, ◌≤◌, List, [], ◌∷◌, ◌++◌, length, take, drop, Some, None, Ok, Err, refl, sym, ap, ◌∙◌, arith, append_assoc, length-drop, drop-drop, append-nil}
 use Rattle.std.proofs.lemmas.List.{map-append, drop_all}
-use Rattle.std.proofs.Math.Seq.{drop-cons}
-use Rattle.std.proofs.Math.ListN.{get_or-append}
-use Rattle.gh_base.specs.declared.names.NameId.{NameId}
-use Rattle.gh_base.specs.Ids.{text_in}
 use Rattle.gh_base.specs.Table.{IsGrown}
-use Rattle.gh_lexer.specs.Lexeme.{Lexeme, Piece, Word, Mark, Unread}
-use Rattle.gh_lexer.specs.Reading.{is_blank, scan_at, piece_of, read_from, then_on, onto, after, reading}
-use Rattle.gh_lexer.specs.Seen.{Table, piece_in, named, lexeme_in, lexemes_in, IsKnown, AllKnown}
+use Rattle.gh_base.specs.declared.refusal.Refusal.{Refusal}
+use Rattle.gh_lexer.specs.declared.place.Place.{Place}
 use Rattle.gh_lexer.specs.declared.scan.Scan.{Scan}
-use Rattle.gh_lexer.specs.declared.token.TokenKind.{TokenKind}
-use Rattle.gh_lexer.specs.declared.token.TokenKind.TheVariants as kind
+use Rattle.gh_lexer.specs.declared.scan.Wrong.{Wrong}
 use Rattle.gh_lexer.specs.declared.token.Token.{Token}
+use Rattle.gh_lexer.specs.Lexeme.{Lexeme}
+use Rattle.gh_lexer.specs.Place.{moved}
+use Rattle.gh_lexer.specs.Scan.{scan_at}
+use Rattle.gh_lexer.specs.Reading.{Where, Lexemes, Valued, valued, refusal_of, lexeme_at, skipped, passed, onto, on_value, on_scan, read_from, beginning, read, after}
+use Rattle.gh_lexer.specs.Seen.{Table, piece_in, lexeme_in, lexemes_in, IdsPlaced, AllPlaced}
+use Rattle.gh_lexer.proofs.Literals.{front_at}
+use Rattle.gh_lexer.proofs.Tables.{kept_all, kept_lexemes, placed_push}
+
+abbrev pub where_at : ℕ → Place → ℕ → Where
+where_at at place last = record { at = at; place = place; last = last }
 
 -- up to a place, the tokens are read
-pub record Lexed (bytes : List ℕ) (table : Table) (tokens : List Token) (at : ℕ) : Type 0 where
-  pub known : AllKnown table tokens
-  pub within : at ≤ length bytes
+pub record Lexed (file : ℕ) (bytes : List ℕ) (table : Table) (tokens : List Token) (w : Where) : Type 0 where
+  pub ids : AllPlaced table tokens
+  pub within : w.at ≤ length bytes
+  pub line : w.place.line ≤ w.at + 1
+  pub column : w.place.column ≤ 8 * w.at + 1
   pub fuel : ℕ
-  pub enough : length bytes ≤ at + fuel
-  pub read : read_from (length bytes) 0 bytes ≡ after (lexemes_in table tokens) (read_from fuel at (drop at bytes))
+  pub enough : length bytes ≤ w.at + fuel
+  pub reads : read_from file (length bytes) beginning bytes ≡ after (lexemes_in table tokens) (read_from file fuel w (drop w.at bytes))
 
-after_none : (r : Result (List Lexeme) ℕ) → after [] r ≡ r
+after_none : (r : Lexemes) → after [] r ≡ r
 after_none (Ok ts) = refl
-after_none (Err at) = refl
+after_none (Err r) = refl
 
-after_one : (ts : List Lexeme) (t : Lexeme) (r : Result (List Lexeme) ℕ) → after ts (onto t r) ≡ after (ts ++ t ∷ []) r
+after_one : (ts : List Lexeme) (t : Lexeme) (r : Lexemes) → after ts (onto t r) ≡ after (ts ++ t ∷ []) r
 after_one ts t (Ok more) = ap Ok (sym (append_assoc ts (t ∷ []) more))
-after_one ts t (Err at) = refl
+after_one ts t (Err r) = refl
 
-pub started : (bytes : List ℕ) (table : Table) → Lexed bytes table [] 0
-started bytes table = record { known = tt; within = omega arith; fuel = length bytes; enough = omega arith; read = sym (after_none _) }
-
-known_push : (table : Table) (ts : List Token) (t : Token) → AllKnown table ts → IsKnown table t.kind → AllKnown table (ts ++ t ∷ [])
-known_push table [] t all one = (one, tt)
-known_push table (x ∷ ts) t all one = (all.0, known_push table ts t all.1 one)
-
-kept_text : (old more : Table) (id : NameId) → id.0 < length old → text_in (old ++ more) id ≡ text_in old id
-kept_text old more id h = get_or-append old more [] id.0 h
-
-kept_piece : (old new : Table) → IsGrown old new → (k : TokenKind) → IsKnown old k → piece_in new k ≡ piece_in old k
-kept_piece old new g (kind.Name c (Some q) id) h = refl
-kept_piece old new g (kind.Int n) h = refl
-kept_piece old new g (kind.Char c) h = refl
-kept_piece old new g (kind.Name c None id) h = ap (λ t. named c (text_in t id)) g.is ∙ ap (named c) (kept_text old g.more id h)
-kept_piece old new g (kind.Word id) h = ap (λ t. Word (text_in t id)) g.is ∙ ap Word (kept_text old g.more id h)
-kept_piece old new g (kind.Mark id) h = ap (λ t. Mark (text_in t id)) g.is ∙ ap Mark (kept_text old g.more id h)
-kept_piece old new g (kind.Str chars) h = refl
-
-longer : (old new : Table) → IsGrown old new → (n : ℕ) → n < length old → n < length new
-longer old new g n h = omega (arith, ap length g.is, length-append old g.more)
-
-kept_known : (old new : Table) → IsGrown old new → (k : TokenKind) → IsKnown old k → IsKnown new k
-kept_known old new g (kind.Name c None id) h = longer old new g id.0 h
-kept_known old new g (kind.Name c (Some q) id) h = (longer old new g q.0 h.0, longer old new g id.0 h.1)
-kept_known old new g (kind.Int n) h = tt
-kept_known old new g (kind.Char c) h = tt
-kept_known old new g (kind.Word id) h = longer old new g id.0 h
-kept_known old new g (kind.Mark id) h = longer old new g id.0 h
-kept_known old new g (kind.Str chars) h = tt
-
-kept_all : (old new : Table) → IsGrown old new → (ts : List Token) → AllKnown old ts → AllKnown new ts
-kept_all old new g [] h = tt
-kept_all old new g (t ∷ ts) h = (kept_known old new g t.kind h.0, kept_all old new g ts h.1)
-
-kept_lexemes : (old new : Table) → IsGrown old new → (ts : List Token) → AllKnown old ts → lexemes_in new ts ≡ lexemes_in old ts
-kept_lexemes old new g [] h = refl
-kept_lexemes old new g (t ∷ ts) h =
-    ap (λ p. record { piece = p; from = t.span.from; to = t.span.to } ∷ lexemes_in new ts) (kept_piece old new g t.kind h.0)
-    ∙ ap (λ ls. lexeme_in old t ∷ ls) (kept_lexemes old new g ts h.1)
+pub started : (file : ℕ) (bytes : List ℕ) (table : Table) → Lexed file bytes table [] beginning
+started file bytes table = record { ids = tt; within = omega arith; line = omega arith; column = omega arith; fuel = length bytes; enough = omega arith; reads = sym (after_none _) }
 
 -- one step of the reading
-read_blank : (n at c : ℕ) (rest : List ℕ) → is_blank c ≡ true → read_from (suc n) at (c ∷ rest) ≡ read_from n (at + 1) rest
-read_blank n at c rest h =
-    ap (λ b. if b then read_from n (at + 1) rest else then_on (scan_at (c ∷ rest)) at (c ∷ rest) (λ len. read_from n (at + len) (drop len (c ∷ rest)))) h
+module _ (file : ℕ) (bytes : List ℕ) (w : Where) (lt : w.at < length bytes) where
+  step : (n : ℕ) → read_from file (suc n) w (drop w.at bytes) ≡ on_scan file w (drop w.at bytes) (scan_at (drop w.at bytes)) (λ len next. read_from file n next (drop len (drop w.at bytes)))
+  step n = ap (read_from file (suc n) w) (front_at bytes w.at lt)
+      ∙ ap (λ b. on_scan file w b (scan_at b) (λ len next. read_from file n next (drop len b))) (sym (front_at bytes w.at lt))
 
-read_scan : (n at c : ℕ) (rest : List ℕ) (o : Option Scan) → is_blank c ≡ false → scan_at (c ∷ rest) ≡ o
-    → read_from (suc n) at (c ∷ rest) ≡ then_on o at (c ∷ rest) (λ len. read_from n (at + len) (drop len (c ∷ rest)))
-read_scan n at c rest o h e =
-    ap (λ b. if b then read_from n (at + 1) rest else then_on (scan_at (c ∷ rest)) at (c ∷ rest) (λ len. read_from n (at + len) (drop len (c ∷ rest)))) h
-    ∙ ap (λ x. then_on x at (c ∷ rest) (λ len. read_from n (at + len) (drop len (c ∷ rest)))) e
+  module _ (table : Table) (ts : List Token) (l : Lexed file bytes table ts w) where
+    go : (A : Type 0) → ((n : ℕ) → length bytes ≤ w.at + suc n
+        → read_from file (length bytes) beginning bytes ≡ after (lexemes_in table ts) (on_scan file w (drop w.at bytes) (scan_at (drop w.at bytes)) (λ len next. read_from file n next (drop len (drop w.at bytes)))) → A) → A
+    go A f = by l.fuel l.enough l.reads
+      where
+        by : (n : ℕ) → length bytes ≤ w.at + n → read_from file (length bytes) beginning bytes ≡ after (lexemes_in table ts) (read_from file n w (drop w.at bytes)) → A
+        by zero e r = absurd (omega arith)
+        by (suc n) e r = f n e (r ∙ ap (after (lexemes_in table ts)) (step n))
 
-front_at : (bytes : List ℕ) (at : ℕ) → at < length bytes → drop at bytes ≡ get_or bytes at 0 ∷ drop (at + 1) bytes
-front_at bytes at h = rw (add-one, drop-cons bytes at 0)
+    pub refused_here : (why : Wrong) → scan_at (drop w.at bytes) ≡ Err why → read file bytes ≡ Err (refusal_of file w.at why)
+    unfolding read
+    refused_here why e = go (read_from file (length bytes) beginning bytes ≡ Err (refusal_of file w.at why))
+        (λ n en r. r ∙ ap (λ s. after (lexemes_in table ts) (on_scan file w (drop w.at bytes) s (λ len next. read_from file n next (drop len (drop w.at bytes))))) e)
 
-abbrev lexeme_of : Scan → ℕ → List ℕ → Lexeme
-lexeme_of s at bytes = record { piece = piece_of s.class (take s.len bytes); from = at; to = at + s.len }
+    module _ (s : Scan) (found : scan_at (drop w.at bytes) ≡ Ok s) (pos : 0 < s.len) (in_bounds : s.len ≤ length (drop w.at bytes)) where
+      abbrev value : Valued
+      value = valued file w.at s.class (take s.len (drop w.at bytes))
 
-module _ (bytes : List ℕ) (table : Table) (ts : List Token) (at : ℕ) (l : Lexed bytes table ts at) (lt : at < length bytes) where
-  pub blank_step : is_blank (get_or bytes at 0) ≡ true → Lexed bytes table ts (at + 1)
-  blank_step blank = go l.fuel l.enough l.read
-    where
-      go : (n : ℕ) → length bytes ≤ at + n → read_from (length bytes) 0 bytes ≡ after (lexemes_in table ts) (read_from n at (drop at bytes)) → Lexed bytes table ts (at + 1)
-      go zero e r = absurd (omega arith)
-      go (suc n) e r = record {
-        known = l.known;
-        within = omega arith;
-        fuel = n;
-        enough = omega arith;
-        read = r ∙ ap (after (lexemes_in table ts)) (ap (read_from (suc n) at) (front_at bytes at lt) ∙ read_blank n at (get_or bytes at 0) (drop (at + 1) bytes) blank);
-      }
+      pub refused_value : (r : Refusal) → value ≡ Err r → read file bytes ≡ Err r
+      unfolding read
+      refused_value r e = go (read_from file (length bytes) beginning bytes ≡ Err r)
+          (λ n en h. h ∙ ap (λ x. after (lexemes_in table ts) (on_scan file w (drop w.at bytes) x (λ len next. read_from file n next (drop len (drop w.at bytes))))) found
+          ∙ ap (λ v. after (lexemes_in table ts) (on_value file w (drop w.at bytes) s.len v (λ next. read_from file n next (drop s.len (drop w.at bytes))))) e)
 
-  pub refused_at : is_blank (get_or bytes at 0) ≡ false → scan_at (drop at bytes) ≡ None → reading bytes ≡ Err at
-  unfolding reading
-  refused_at blank none = go l.fuel l.enough l.read
-    where
-      go : (n : ℕ) → length bytes ≤ at + n → read_from (length bytes) 0 bytes ≡ after (lexemes_in table ts) (read_from n at (drop at bytes)) → read_from (length bytes) 0 bytes ≡ Err at
-      go zero e r = absurd (omega arith)
-      go (suc n) e r = r ∙ ap (after (lexemes_in table ts)) (ap (read_from (suc n) at) (front_at bytes at lt)
-          ∙ read_scan n at (get_or bytes at 0) (drop (at + 1) bytes) None blank (ap scan_at (sym (front_at bytes at lt)) ∙ none))
+      module _ (place : Place) (is_place : place ≡ moved s.len (drop w.at bytes) w.place) (line : place.line ≤ w.place.line + s.len) (column : place.column ≤ w.place.column + 8 * s.len)
+          (new : Table) (g : IsGrown table new) where
+        pub skip_step : value ≡ Ok None → Lexed file bytes new ts (where_at (w.at + s.len) place w.last)
+        skip_step e = go (Lexed file bytes new ts (where_at (w.at + s.len) place w.last)) (λ n en h. record {
+          ids = kept_all table new g ts l.ids;
+          within = omega (arith, length-drop w.at bytes, in_bounds, l.within);
+          line = omega (arith, l.line);
+          column = omega (arith, l.column);
+          fuel = n;
+          enough = omega arith;
+          reads = h ∙ ap (λ x. after (lexemes_in table ts) (on_scan file w (drop w.at bytes) x (λ len next. read_from file n next (drop len (drop w.at bytes))))) found
+              ∙ ap (λ v. after (lexemes_in table ts) (on_value file w (drop w.at bytes) s.len v (λ next. read_from file n next (drop s.len (drop w.at bytes))))) e
+              ∙ ap (λ b. after (lexemes_in table ts) (read_from file n (skipped s.len (drop w.at bytes) w) b)) (drop-drop s.len w.at bytes)
+              ∙ ap (λ p. after (lexemes_in table ts) (read_from file n (where_at (w.at + s.len) p w.last) (drop (w.at + s.len) bytes))) (sym is_place)
+              ∙ ap (λ ls. after ls (read_from file n (where_at (w.at + s.len) place w.last) (drop (w.at + s.len) bytes))) (sym (kept_lexemes table new g ts l.ids));
+        })
 
-  pub token_step : is_blank (get_or bytes at 0) ≡ false → (s : Scan) → scan_at (drop at bytes) ≡ Some s → s.len ≤ length (drop at bytes) → 0 < s.len
-      → (new : Table) → IsGrown table new → (t : Token) → IsKnown new t.kind → piece_in new t.kind ≡ piece_of s.class (take s.len (drop at bytes))
-      → t.span.from ≡ at → t.span.to ≡ at + s.len → Lexed bytes new (ts ++ t ∷ []) (at + s.len)
-  token_step blank s some in_bounds pos new g t is_known piece from to = go l.fuel l.enough l.read
-    where
-      lexemes : lexemes_in new (ts ++ t ∷ []) ≡ lexemes_in table ts ++ lexeme_of s at (drop at bytes) ∷ []
-      lexemes = map-append (lexeme_in new) ts (t ∷ []) ∙ ap (λ ls. ls ++ lexeme_in new t ∷ []) (kept_lexemes table new g ts l.known)
-          ∙ ap (λ x. lexemes_in table ts ++ x ∷ []) (λ i. record { piece = piece i; from = from i; to = to i })
+        pub token_step : (t : Token) → value ≡ Ok (Some (piece_in new t.kind)) → IdsPlaced new t.kind → lexeme_in new t ≡ lexeme_at file w s.len (piece_in new t.kind)
+            → Lexed file bytes new (ts ++ t ∷ []) (where_at (w.at + s.len) place w.place.line)
+        token_step t e ids same = go (Lexed file bytes new (ts ++ t ∷ []) (where_at (w.at + s.len) place w.place.line)) (λ n en h. record {
+          ids = placed_push new ts t (kept_all table new g ts l.ids) ids;
+          within = omega (arith, length-drop w.at bytes, in_bounds, l.within);
+          line = omega (arith, l.line);
+          column = omega (arith, l.column);
+          fuel = n;
+          enough = omega arith;
+          reads = h ∙ ap (λ x. after (lexemes_in table ts) (on_scan file w (drop w.at bytes) x (λ len next. read_from file n next (drop len (drop w.at bytes))))) found
+              ∙ ap (λ v. after (lexemes_in table ts) (on_value file w (drop w.at bytes) s.len v (λ next. read_from file n next (drop s.len (drop w.at bytes))))) e
+              ∙ ap (λ b. after (lexemes_in table ts) (onto (lexeme_at file w s.len (piece_in new t.kind)) (read_from file n (passed s.len (drop w.at bytes) w) b))) (drop-drop s.len w.at bytes)
+              ∙ ap (λ p. after (lexemes_in table ts) (onto (lexeme_at file w s.len (piece_in new t.kind)) (read_from file n (where_at (w.at + s.len) p w.place.line) (drop (w.at + s.len) bytes)))) (sym is_place)
+              ∙ after_one (lexemes_in table ts) (lexeme_at file w s.len (piece_in new t.kind)) (read_from file n (where_at (w.at + s.len) place w.place.line) (drop (w.at + s.len) bytes))
+              ∙ ap (λ ls. after ls (read_from file n (where_at (w.at + s.len) place w.place.line) (drop (w.at + s.len) bytes)))
+              (ap (λ x. lexemes_in table ts ++ x ∷ []) (sym same) ∙ ap (λ ls. ls ++ lexeme_in new t ∷ []) (sym (kept_lexemes table new g ts l.ids)) ∙ sym (map-append (lexeme_in new) ts (t ∷ [])));
+        })
 
-      go : (n : ℕ) → length bytes ≤ at + n → read_from (length bytes) 0 bytes ≡ after (lexemes_in table ts) (read_from n at (drop at bytes)) → Lexed bytes new (ts ++ t ∷ []) (at + s.len)
-      go zero e r = absurd (omega arith)
-      go (suc n) e r = record {
-        known = known_push new ts t (kept_all table new g ts l.known) is_known;
-        within = omega (arith, length-drop at bytes, in_bounds);
-        fuel = n;
-        enough = omega arith;
-        read = r ∙ ap (after (lexemes_in table ts)) (ap (read_from (suc n) at) (front_at bytes at lt)
-            ∙ read_scan n at (get_or bytes at 0) (drop (at + 1) bytes) (Some s) blank (ap scan_at (sym (front_at bytes at lt)) ∙ some)
-            ∙ ap (λ b. then_on (Some s) at b (λ len. read_from n (at + len) (drop len b))) (sym (front_at bytes at lt))
-            ∙ ap (λ b. onto (lexeme_of s at (drop at bytes)) (read_from n (at + s.len) b)) (drop-drop s.len at bytes))
-            ∙ after_one (lexemes_in table ts) (lexeme_of s at (drop at bytes)) (read_from n (at + s.len) (drop (at + s.len) bytes))
-            ∙ ap (λ ls. after ls (read_from n (at + s.len) (drop (at + s.len) bytes))) (sym lexemes);
-      }
-
-pub finished : (bytes : List ℕ) (table : Table) (ts : List Token) (at : ℕ) → Lexed bytes table ts at → length bytes ≤ at → reading bytes ≡ Ok (lexemes_in table ts)
-unfolding reading
-finished bytes table ts at l le = l.read ∙ ap (λ b. after (lexemes_in table ts) (read_from l.fuel at b)) (drop_all at bytes le)
-    ∙ ap (after (lexemes_in table ts)) (nothing l.fuel at) ∙ ap Ok (append-nil (lexemes_in table ts))
+pub finished : (file : ℕ) (bytes : List ℕ) (table : Table) (ts : List Token) (w : Where) → Lexed file bytes table ts w → length bytes ≤ w.at → read file bytes ≡ Ok (lexemes_in table ts)
+unfolding read
+finished file bytes table ts w l le = l.reads ∙ ap (λ b. after (lexemes_in table ts) (read_from file l.fuel w b)) (drop_all w.at bytes le)
+    ∙ ap (after (lexemes_in table ts)) (nothing l.fuel) ∙ ap Ok (append-nil (lexemes_in table ts))
   where
-    nothing : (n at : ℕ) → read_from n at [] ≡ Ok []
-    nothing zero at = refl
-    nothing (suc n) at = refl
+    nothing : (n : ℕ) → read_from file n w [] ≡ Ok []
+    nothing zero = refl
+    nothing (suc n) = refl

@@ -1,1 +1,16 @@
+pub mod Comments
+pub mod Cutting
+pub mod Examples
+pub mod Law
 pub mod Lexing
+pub mod Lines
+pub mod Longest
+pub mod LongestNames
+pub mod LongestNumbers
+pub mod LongestTexts
+pub mod Once
+pub mod Literals
+pub mod Places
+pub mod Runs
+pub mod Tables
+pub mod Utf8

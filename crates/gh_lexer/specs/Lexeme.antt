@@ -1,17 +1,21 @@
 -- Tokens as texts, apart from any table of names.
-use Rattle.std.specs.Prelude.{ℕ, List}
+use Rattle.std.specs.Prelude.{ℕ, Bool, List, Option}
+use Rattle.gh_base.specs.declared.place.Span.{Span}
+use Rattle.gh_lexer.specs.declared.token.NameClass.{NameClass}
 
+-- what a token is: texts are bytes, and characters are code points
 pub data Piece : Type 0 where
-  VarId : (text : List ℕ) → Piece
-  ConId : (text : List ℕ) → Piece
-  VarSym : (text : List ℕ) → Piece
+  Named : (class : NameClass) → (qualifier : Option (List ℕ)) → (text : List ℕ) → Piece
   Word : (text : List ℕ) → Piece
   Mark : (text : List ℕ) → Piece
-  Str : (chars : List ℕ) → Piece
-  -- a token of a form that is not read yet
-  Unread : Piece
+  Number : (value : ℕ) → Piece
+  Letter : (char : ℕ) → Piece
+  Text : (chars : List ℕ) → Piece
 
+-- a token with its place: the bytes of the file, and line and column of its first byte, from 1
 pub record Lexeme : Type 0 where
   pub piece : Piece
-  pub from : ℕ
-  pub to : ℕ
+  pub span : Span
+  pub line : ℕ
+  pub column : ℕ
+  pub first : Bool

@@ -1,5 +1,9 @@
-pub mod Bad
+pub mod Chars
+pub mod Cut
 pub mod Lexeme
-pub mod Position
+pub mod Literal
+pub mod Pieces
+pub mod Place
 pub mod Reading
+pub mod Scan
 pub mod Seen

@@ -1,103 +1,124 @@
--- The reading of a file as tokens.
-use Rattle.std.specs.Prelude.{◌≡◌, ◌<◌, ◌≤◌, ℕ, zero, suc, ◌+◌, ◌-◌, Bool, true, false, not, ◌&&◌, ◌||◌, ◌==◌, nat_le, if◌then◌else◌, List, [], ◌∷◌, ◌++◌, length, take, drop, Option, Some, None, Result, Ok, Err}
-use Rattle.std.specs.List.{list_any, prefix_len}
-use Rattle.std.specs.Str.{bytes_eq}
-use Rattle.gh_lexer.specs.declared.scan.TheConstants.{RESERVED}
+-- The reading of a file as tokens, from its first byte on.
+use Rattle.std.specs.Prelude.{ℕ, zero, suc, ◌+◌, ◌-◌, ◌^◌, not, ◌==◌, nat_lt, if◌then◌else◌, List, [], ◌∷◌, ◌++◌, length, take, drop, Option, Some, None, Result, Ok, Err}
+use Rattle.std.specs.Str.Lossy.{utf8_valid_len}
+use Rattle.gh_base.specs.declared.place.Span.{Span}
+use Rattle.gh_base.specs.declared.refusal.Refusal.{Refusal}
+use Rattle.gh_base.specs.declared.refusal.Refusal.TheVariants.{NotUtf8, NoToken, OpenComment, OpenText, NumberOutOfRange, NameTooLong}
+use Rattle.gh_lexer.specs.declared.place.Place.{Place}
 use Rattle.gh_lexer.specs.declared.scan.Class.{Class}
 use Rattle.gh_lexer.specs.declared.scan.Class.TheVariants as class
 use Rattle.gh_lexer.specs.declared.scan.Scan.{Scan}
-use Rattle.gh_lexer.specs.Lexeme.{Piece, VarId, ConId, VarSym, Word, Mark, Str, Unread, Lexeme}
+use Rattle.gh_lexer.specs.declared.scan.Wrong.{Wrong}
+use Rattle.gh_lexer.specs.declared.scan.Wrong.TheVariants as wrong
+use Rattle.gh_lexer.specs.declared.scan.Item.{Item}
+use Rattle.gh_lexer.specs.declared.scan.Escape.{Escape}
+use Rattle.gh_lexer.specs.declared.scan.Meaning.{Meaning}
+use Rattle.gh_lexer.specs.declared.scan.Meaning.TheVariants as meaning
+use Rattle.gh_lexer.specs.Lexeme.{Lexeme, Piece, Named, Word, Mark, Number, Letter, Text}
+use Rattle.gh_lexer.specs.Literal.{integer_of, letter_at, spelled}
+use Rattle.gh_lexer.specs.Place.{moved, start}
+use Rattle.gh_lexer.specs.Scan.{scan_at}
 
-abbrev pub is_small : ℕ → Bool
-is_small c = (nat_le 97 c && nat_le c 122) || c == 95
+abbrev pub span_at : ℕ → ℕ → ℕ → Span
+span_at file from to = record { file = file; from = from; to = to }
 
-abbrev pub is_large : ℕ → Bool
-is_large c = nat_le 65 c && nat_le c 90
+-- the span of one byte
+abbrev pub byte_at : ℕ → ℕ → Span
+byte_at file at = span_at file at (at + 1)
 
-abbrev pub is_name_char : ℕ → Bool
-is_name_char c = is_small c || is_large c || (nat_le 48 c && nat_le c 57) || c == 39
+-- the refusal of bytes that begin no piece
+abbrev pub refusal_of : ℕ → ℕ → Wrong → Refusal
+refusal_of file at wrong.NoToken = NoToken (byte_at file at)
+refusal_of file at wrong.OpenComment = OpenComment (byte_at file at)
+refusal_of file at wrong.OpenText = OpenText (byte_at file at)
 
--- space, tab, VT and the line ends
-abbrev pub is_blank : ℕ → Bool
-is_blank c = c == 32 || (nat_le 9 c && nat_le c 13)
+abbrev pub Valued : Type 0
+Valued = Result (Option Piece) Refusal
 
--- what a string may hold
-abbrev pub is_text_char : ℕ → Bool
-is_text_char c = nat_le 32 c && nat_le c 126 && not (c == 34) && not (c == 92)
+-- a name is at most 255 bytes long, its qualifier and the dot included
+abbrev pub named : ℕ → ℕ → ℕ → Piece → Valued
+named file at len p = if nat_lt 255 len then Err (NameTooLong (span_at file at (at + len))) else Ok (Some p)
 
-abbrev pub is_mark : ℕ → Bool
-is_mark c = c == 123 || c == 125 || c == 59 || c == 61
+abbrev pub number : ℕ → ℕ → ℕ → ℕ → Valued
+number file at len n = if nat_lt n (2 ^ 63) then Ok (Some (Number n)) else Err (NumberOutOfRange (span_at file at (at + len)))
 
-unfoldable pub is_reserved : List ℕ → Bool
-is_reserved s = list_any (λ word. bytes_eq word.now s) RESERVED
+abbrev pub letter_meant : ℕ → ℕ → ℕ → Meaning → Valued
+letter_meant file at len (meaning.Char c) = Ok (Some (Letter c))
+letter_meant file at len meaning.TooGreat = Err (NumberOutOfRange (span_at file (at + 1) (at + 1 + len)))
+letter_meant file at len meaning.Nothing = Err (OpenText (byte_at file at))
 
-abbrev pub scanned : Class → ℕ → Option Scan
-scanned c n = Some (record { class = c; len = n })
+abbrev pub letter : ℕ → ℕ → Option Item → Valued
+letter file at None = Err (OpenText (byte_at file at))
+letter file at (Some i) = letter_meant file at i.len i.meaning
 
--- a name is as long as it can be
-unfoldable pub name_at : ℕ → List ℕ → Option Scan
-name_at c rest =
-    if is_reserved (c ∷ take (prefix_len is_name_char rest) rest) then scanned class.Word (prefix_len is_name_char rest + 1)
-    else scanned class.Var (prefix_len is_name_char rest + 1)
+abbrev pub text : ℕ → ℕ → Result (List ℕ) Escape → Valued
+text file at (Ok chars) = Ok (Some (Text chars))
+text file at (Err bad) = Err (NumberOutOfRange (span_at file (at + bad.from) (at + bad.to)))
 
-abbrev pub begins : ℕ → List ℕ → Bool
-begins c [] = false
-begins c (d ∷ rest) = d == c
+-- what stands between two quotes
+abbrev pub body_of : List ℕ → List ℕ
+body_of bytes = take (length bytes - 2) (drop 1 bytes)
 
--- after the opening quote: up to the closing quote, if it comes
-unfoldable pub string_at : List ℕ → Option Scan
-string_at rest =
-    if begins 34 (drop (prefix_len is_text_char rest) rest) then scanned class.Str (prefix_len is_text_char rest + 2) else None
+-- the value of a piece by its class and its bytes; white space and comments have none
+abbrev pub valued : ℕ → ℕ → Class → List ℕ → Valued
+valued file at class.Skip bytes = Ok None
+valued file at (class.Name c) bytes = named file at (length bytes) (Named c None bytes)
+valued file at (class.Qualified c size) bytes = named file at (length bytes) (Named c (Some (take size bytes)) (drop 1 (drop size bytes)))
+valued file at class.Word bytes = Ok (Some (Word bytes))
+valued file at class.Mark bytes = Ok (Some (Mark bytes))
+valued file at class.Int bytes = number file at (length bytes) (integer_of bytes)
+valued file at class.Char bytes = letter file at (letter_at (drop 1 bytes))
+valued file at class.Str bytes = text file at (spelled (body_of bytes))
 
--- what begins with a character that begins no name
-unfoldable pub other_at : ℕ → List ℕ → Option Scan
-other_at c rest =
-    if is_mark c then scanned class.Mark 1
-    else (if c == 34 then string_at rest
-    else (if c == 43 && begins 43 rest then scanned class.Sym 2 else None))
+-- how far a file is read: the place, and the line of the last token, or 0
+pub record Where : Type 0 where
+  pub at : ℕ
+  pub place : Place
+  pub last : ℕ
 
--- the token at the front, where one begins there
-unfoldable pub scan_at : List ℕ → Option Scan
-scan_at [] = None
-scan_at (c ∷ rest) =
-    if is_small c then name_at c rest
-    else (if is_large c then scanned class.Con (prefix_len is_name_char rest + 1) else other_at c rest)
+abbrev pub lexeme_at : ℕ → Where → ℕ → Piece → Lexeme
+lexeme_at file w len p = record { piece = p; span = span_at file w.at (w.at + len); line = w.place.line; column = w.place.column; first = not (w.place.line == w.last) }
 
--- a token from its class and bytes
-abbrev pub piece_of : Class → List ℕ → Piece
-piece_of class.Var s = VarId s
-piece_of class.Con s = ConId s
-piece_of class.Sym s = VarSym s
-piece_of class.Word s = Word s
-piece_of class.Mark s = Mark s
-piece_of class.Str s = Str (take (length s - 2) (drop 1 s))
+-- after a piece of so many bytes
+abbrev pub skipped : ℕ → List ℕ → Where → Where
+skipped len bytes w = record { at = w.at + len; place = moved len bytes w.place; last = w.last }
 
-abbrev pub onto : Lexeme → Result (List Lexeme) ℕ → Result (List Lexeme) ℕ
+abbrev pub passed : ℕ → List ℕ → Where → Where
+passed len bytes w = record { at = w.at + len; place = moved len bytes w.place; last = w.place.line }
+
+abbrev pub Lexemes : Type 0
+Lexemes = Result (List Lexeme) Refusal
+
+abbrev pub onto : Lexeme → Lexemes → Lexemes
 onto t (Ok ts) = Ok (t ∷ ts)
-onto t (Err at) = Err at
+onto t (Err r) = Err r
 
-abbrev pub then_on : Option Scan → ℕ → List ℕ → (ℕ → Result (List Lexeme) ℕ) → Result (List Lexeme) ℕ
-then_on None at bytes go = Err at
-then_on (Some s) at bytes go = onto (record { piece = piece_of s.class (take s.len bytes); from = at; to = at + s.len }) (go s.len)
+abbrev pub on_value : ℕ → Where → List ℕ → ℕ → Valued → (Where → Lexemes) → Lexemes
+on_value file w bytes len (Err r) go = Err r
+on_value file w bytes len (Ok None) go = go (skipped len bytes w)
+on_value file w bytes len (Ok (Some p)) go = onto (lexeme_at file w len p) (go (passed len bytes w))
 
--- the tokens from a place on, or the place where none begins; at most n steps
-abbrev pub read_from : ℕ → ℕ → List ℕ → Result (List Lexeme) ℕ
-read_from zero at bytes = Ok []
-read_from (suc n) at [] = Ok []
-read_from (suc n) at (c ∷ rest) =
-    if is_blank c then read_from n (at + 1) rest
-    else then_on (scan_at (c ∷ rest)) at (c ∷ rest) (λ len. read_from n (at + len) (drop len (c ∷ rest)))
+abbrev pub on_scan : ℕ → Where → List ℕ → Result Scan Wrong → (ℕ → Where → Lexemes) → Lexemes
+on_scan file w bytes (Err why) go = Err (refusal_of file w.at why)
+on_scan file w bytes (Ok s) go = on_value file w bytes s.len (valued file w.at s.class (take s.len bytes)) (go s.len)
 
-unfoldable pub reading : List ℕ → Result (List Lexeme) ℕ
-reading bytes = read_from (length bytes) 0 bytes
+-- the tokens from a place on, or the first refusal; at most n pieces
+abbrev pub read_from : ℕ → ℕ → Where → List ℕ → Lexemes
+read_from file zero w bytes = Ok []
+read_from file (suc n) w [] = Ok []
+read_from file (suc n) w (c ∷ rest) = on_scan file w (c ∷ rest) (scan_at (c ∷ rest)) (λ len next. read_from file n next (drop len (c ∷ rest)))
 
--- tokens, and then what else is read
-abbrev pub after : List Lexeme → Result (List Lexeme) ℕ → Result (List Lexeme) ℕ
+abbrev pub beginning : Where
+beginning = record { at = 0; place = start; last = 0 }
+
+unfoldable pub read : ℕ → List ℕ → Lexemes
+read file bytes = read_from file (length bytes) beginning bytes
+
+-- a file is tested for UTF-8 first, and then read
+unfoldable pub reading : ℕ → List ℕ → Lexemes
+reading file bytes = if utf8_valid_len bytes == length bytes then read file bytes else Err (NotUtf8 (byte_at file (utf8_valid_len bytes)))
+
+-- lexemes, and then what else is read
+abbrev pub after : List Lexeme → Lexemes → Lexemes
 after ts (Ok more) = Ok (ts ++ more)
-after ts (Err at) = Err at
-
--- what a scan says of the bytes
-pub record IsWithin (s : Scan) (bytes : List ℕ) : Type 0 where
-  pub some : 0 < s.len
-  pub in_bounds : s.len ≤ length bytes
-  pub quoted : s.class ≡ class.Str → 2 ≤ s.len
+after ts (Err r) = Err r

@@ -1,11 +1,17 @@
 //! From bytes to tokens.
 #![tactic(auto)]
 
-mod position;
-mod reader;
+mod classes;
+mod kinds;
+mod lexer;
+mod literal;
+mod place;
 mod scan;
+mod scanner;
 mod token;
 
-pub use position::{Position, START, moved};
-pub use reader::lex;
+pub use lexer::lex;
 pub use token::{NameClass, Token, TokenKind};
+
+#[cfg(test)]
+mod tests;

@@ -1,5 +1,5 @@
 use Rattle.std.proofs.Common.{ap, ◌∙◌}
-use Rattle.gh_lexer.specs.Seen.{lexemes_in}
+use Rattle.gh_first_form.specs.Seen.{lexemes_in}
 use Rattle.gh_driver.specs.Grammar.{last_end}
 use Rattle.gh_driver.specs.declared.grammar.Parsed.TheVariants.{Bad}
 use Rattle.gh_driver.proofs.Known.{bad_joined}

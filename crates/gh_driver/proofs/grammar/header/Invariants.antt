@@ -1,5 +1,5 @@
 use Rattle.std.proofs.Common.{◌≡◌, ◌++◌, take, drop}
-use Rattle.gh_lexer.specs.Seen.{lexemes_in}
+use Rattle.gh_first_form.specs.Seen.{lexemes_in}
 use Rattle.gh_driver.specs.Grammar.{header_of}
 use Rattle.gh_driver.proofs.grammar.header.Given as goal
 

@@ -1,5 +1,5 @@
 use Rattle.std.proofs.Common.{◌≡◌, ◌≤◌, take, drop, None, []}
-use Rattle.gh_lexer.specs.Seen.{lexemes_in}
+use Rattle.gh_first_form.specs.Seen.{lexemes_in}
 use Rattle.gh_driver.specs.Grammar.{judged_all, items_from}
 use Rattle.gh_driver.proofs.grammar.items.Given as goal
 

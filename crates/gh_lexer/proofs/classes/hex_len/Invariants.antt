@@ -1,0 +1,7 @@
+use Rattle.std.proofs.Common.{◌≡◌, ◌+◌, drop}
+use Rattle.std.specs.List.{prefix_len}
+use Rattle.gh_lexer.specs.Chars.{is_hex}
+use Rattle.gh_lexer.proofs.classes.hex_len.Given as goal
+
+abbrev pub invariant-loop-byte : goal.invariant-loop-byte
+invariant-loop-byte l = (l.at ≡ l.byte-index) × (prefix_len is_hex l.bytes ≡ l.at + prefix_len is_hex (drop l.byte-index l.bytes))

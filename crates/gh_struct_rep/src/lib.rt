@@ -1,0 +1,10 @@
+//! The type whose values stand for those of a datatype, and where each constructor lies in it.
+#![tactic(auto)]
+
+mod injections;
+mod nesting;
+#[cfg(test)]
+mod tests;
+
+pub use injections::paths;
+pub use nesting::rep;

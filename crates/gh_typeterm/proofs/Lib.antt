@@ -1,0 +1,4 @@
+pub mod Examples
+pub mod Folds
+pub mod Representation
+pub mod Substitution

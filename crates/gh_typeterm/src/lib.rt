@@ -1,0 +1,18 @@
+//! Type terms, kinds and declarations, and folds over type terms.
+#![tactic(auto)]
+
+mod decl;
+mod kind;
+mod shared;
+mod terms;
+#[cfg(test)]
+mod tests;
+mod ty;
+mod walking;
+
+pub use decl::{DeclCon, DeclData, copy_decl, share_terms};
+pub use kind::{Kind, copy_kind, same_kind};
+pub use shared::Shared;
+pub use terms::{same, size, substitute};
+pub use ty::{Ty, TyNode};
+pub use walking::{TypeWalk, walk};
