@@ -1,0 +1,4 @@
+pub mod Examples
+pub mod Keeping
+pub mod Laid
+pub mod Stacks
