@@ -1,7 +1,7 @@
 -- Small files with their readings.
 use Rattle.std.proofs.Common.{◌≡◌, ℕ, Bool, true, false, List, [], ◌∷◌, Some, None, Ok, Err, refl}
-use Rattle.std.specs.Prelude.{codes}
-use Rattle.gh_base.specs.declared.refusal.Refusal.TheVariants.{NoToken, OpenComment, OpenText, NumberOutOfRange}
+use Rattle.std.specs.Prelude.{codes, map, take, drop, replicate}
+use Rattle.gh_base.specs.declared.refusal.Refusal.TheVariants.{NotUtf8, NoToken, OpenComment, OpenText, NumberOutOfRange, NameTooLong}
 use Rattle.gh_lexer.specs.declared.token.NameClass.TheVariants as name
 use Rattle.gh_lexer.specs.declared.scan.Class.TheVariants as class
 use Rattle.gh_lexer.specs.declared.scan.Wrong.TheVariants as wrong
@@ -10,7 +10,12 @@ use Rattle.gh_lexer.specs.Lexeme.{Lexeme, Piece, Named, Mark, Number, Letter, Te
 use Rattle.gh_lexer.specs.Literal.{integer_of, numeric_escape, escape_at, empty_at, plain_at, backslash_at, item_at, letter_at}
 use Rattle.gh_lexer.specs.Pieces.{piece_of}
 use Rattle.gh_lexer.specs.Place.{past}
-use Rattle.gh_lexer.specs.Reading.{span_at, read}
+use Rattle.gh_base.specs.Fixed.{fixed_texts}
+use Rattle.std.specs.Char.{encode_utf8}
+use Rattle.std.specs.Str.{is_utf8, chars}
+use Rattle.std.specs.Str.Lossy.{utf8_valid_len}
+use Rattle.gh_lexer.specs.declared.scan.TheConstants.{RESERVED, OPERATORS}
+use Rattle.gh_lexer.specs.Reading.{reading, span_at, read}
 use Rattle.gh_lexer.specs.Scan.{small_at, part_at, qualified_at, decimal_at, number_at, operator_at, symbol_at, brace_at, quote_at, text_at, other_at, scan_at}
 
 -- a token with its bytes, line and column, and whether it is the first of its line
@@ -115,3 +120,26 @@ a_close = refl
 pub a_string : piece_of (codes "\"a\\\"b\"") ≡ Some (Ok class.Str)
 unfolding piece_of item_at backslash_at escape_at plain_at
 a_string = refl
+
+-- the fixed names of the table begin with the reserved words and then the reserved operators
+pub words_are_fixed : map (λ w. w.now) RESERVED ≡ take 22 fixed_texts
+unfolding fixed_texts
+words_are_fixed = refl
+
+pub operators_are_fixed : map (λ w. w.now) OPERATORS ≡ take 11 (drop 22 fixed_texts)
+unfolding fixed_texts
+operators_are_fixed = refl
+
+-- a name of 255 bytes is read, and one of 256 is not
+pub a_long_name : read 1 (replicate 255 97) ≡ Ok (at (var (replicate 255 97)) 0 255 1 1 true ∷ [])
+unfolding read scan_at small_at is_word past
+a_long_name = refl
+
+pub a_name_too_long : read 1 (replicate 256 97) ≡ Err (NameTooLong (span_at 1 0 256))
+unfolding read scan_at small_at is_word past
+a_name_too_long = refl
+
+-- UTF-8 is tested before anything else
+pub ill_formed : reading 1 (1 ∷ 32 ∷ 255 ∷ []) ≡ Err (NotUtf8 (span_at 1 2 3))
+unfolding reading utf8_valid_len is_utf8 chars encode_utf8
+ill_formed = refl

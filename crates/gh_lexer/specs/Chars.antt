@@ -12,12 +12,15 @@ is_small c = (nat_le 97 c && nat_le c 122) || c == 95
 abbrev pub is_large : ℕ → Bool
 is_large c = nat_le 65 c && nat_le c 90
 
+-- a decimal digit
 abbrev pub is_digit : ℕ → Bool
 is_digit c = nat_le 48 c && nat_le c 57
 
+-- an octal digit
 abbrev pub is_octal : ℕ → Bool
 is_octal c = nat_le 48 c && nat_le c 55
 
+-- a hexadecimal digit
 abbrev pub is_hex : ℕ → Bool
 is_hex c = is_digit c || (nat_le 97 c && nat_le c 102) || (nat_le 65 c && nat_le c 70)
 
@@ -46,6 +49,7 @@ is_blank c = c == 32 || (nat_le 9 c && nat_le c 13)
 abbrev pub is_in_line : ℕ → Bool
 is_in_line c = not (is_line_end c)
 
+-- `-`
 abbrev pub is_dash : ℕ → Bool
 is_dash c = c == 45
 
@@ -55,9 +59,11 @@ is_dashes [] = false
 is_dashes (a ∷ []) = false
 is_dashes (a ∷ b ∷ more) = is_dash a && (is_dash b && list_all is_dash more)
 
+-- a reserved word
 unfoldable pub is_word : List ℕ → Bool
 is_word s = list_any (λ word. bytes_eq word.now s) RESERVED
 
+-- a reserved operator
 unfoldable pub is_operator : List ℕ → Bool
 is_operator s = list_any (λ word. bytes_eq word.now s) OPERATORS
 

@@ -44,6 +44,7 @@ placed file bytes before lines text p = record {
   first = not (list_any (λ line. (moved (length before) bytes start).line == line) lines);
 }
 
+-- the token of a segment, if it is one, and then the tokens of the segments after it
 abbrev pub token_then : ℕ → List ℕ → List ℕ → List ℕ → List ℕ → Option Piece → (List ℕ → List Lexeme) → List Lexeme
 token_then file bytes before lines text None more = more lines
 token_then file bytes before lines text (Some p) more = placed file bytes before lines text p ∷ more ((moved (length before) bytes start).line ∷ lines)

@@ -17,6 +17,7 @@ abbrev pub value_on : ℕ → ℕ → List ℕ → ℕ
 value_on base v [] = v
 value_on base v (c ∷ cs) = value_on base (v * base + digit_value c) cs
 
+-- the value of digits
 abbrev pub value_of : ℕ → List ℕ → ℕ
 value_of base digits = value_on base 0 digits
 
@@ -36,6 +37,7 @@ integer_after_zero rest =
     if is_based 120 88 is_hex rest then value_of 16 (drop 1 rest)
     else (if is_based 111 79 is_octal rest then value_of 8 (drop 1 rest) else value_of 10 rest)
 
+-- the value of an integer by its whole text
 unfoldable pub integer_of : List ℕ → ℕ
 integer_of [] = 0
 integer_of (c ∷ rest) = if c == 48 then integer_after_zero rest else value_of 10 (c ∷ rest)
@@ -44,6 +46,7 @@ integer_of (c ∷ rest) = if c == 48 then integer_after_zero rest else value_of 
 abbrev pub is_scalar : ℕ → Bool
 is_scalar n = nat_lt n 55296 || (nat_le 57344 n && nat_le n 1114111)
 
+-- a number is a character, or none
 abbrev pub meaning_of : ℕ → Meaning
 meaning_of n = if is_scalar n then meaning.Char n else meaning.TooGreat
 
@@ -60,6 +63,7 @@ numeric_escape before base p digits =
     if prefix_len p digits == 0 then None
     else Some (record { len = before + prefix_len p digits; meaning = meaning_of (value_of base (take (prefix_len p digits) digits)) })
 
+-- an escape of one letter, or another
 abbrev pub letter_or : Option ℕ → Option Item → Option Item
 letter_or (Some v) other = Some (record { len = 2; meaning = meaning.Char v })
 letter_or None other = other
@@ -85,6 +89,7 @@ abbrev pub character_on : ℕ → List ℕ → ℕ
 character_on v [] = v
 character_on v (b ∷ bs) = character_on (v * 64 + (b - 128)) bs
 
+-- a character of so many bytes, if it is one
 abbrev pub plain_item : ℕ → ℕ → Option Item
 plain_item len v = if is_scalar v then Some (record { len = len; meaning = meaning.Char v }) else None
 
@@ -110,6 +115,7 @@ unfoldable pub letter_at : List ℕ → Option Item
 letter_at [] = None
 letter_at (c ∷ rest) = if c == 39 then None else (if c == 92 then escape_at rest else plain_at c rest)
 
+-- the length of an item and of what comes after it
 abbrev pub on_item : Option Item → (ℕ → Option ℕ) → Option ℕ
 on_item None go = None
 on_item (Some i) go = option_map (λ n. suc n) (go (i.len - 1))
@@ -120,15 +126,18 @@ close_at skip [] = None
 close_at (suc skip) (c ∷ rest) = option_map (λ n. suc n) (close_at skip rest)
 close_at zero (c ∷ rest) = if c == 34 then Some 1 else on_item (item_at (c ∷ rest)) (λ skip. close_at skip rest)
 
+-- a character before those that the rest gives
 abbrev pub and_char : ℕ → Result (List ℕ) Escape → Result (List ℕ) Escape
 and_char c (Ok cs) = Ok (c ∷ cs)
 and_char c (Err bad) = Err bad
 
+-- what an item gives, before what the rest gives
 abbrev pub on_meaning : Meaning → ℕ → ℕ → Result (List ℕ) Escape → Result (List ℕ) Escape
 on_meaning meaning.Nothing at len more = more
 on_meaning (meaning.Char c) at len more = and_char c more
 on_meaning meaning.TooGreat at len more = Err (record { from = at; to = at + len })
 
+-- the next item, and then the rest
 abbrev pub on_next : Option Item → ℕ → (ℕ → Result (List ℕ) Escape) → Result (List ℕ) Escape
 on_next None at go = Ok []
 on_next (Some i) at go = on_meaning i.meaning at i.len (go (i.len - 1))
@@ -139,5 +148,6 @@ spelled_from skip at [] = Ok []
 spelled_from (suc skip) at (c ∷ rest) = spelled_from skip (at + 1) rest
 spelled_from zero at (c ∷ rest) = on_next (item_at (c ∷ rest)) at (λ skip. spelled_from skip (at + 1) rest)
 
+-- what the bytes between two quotes give, counted from the opening quote
 abbrev pub spelled : List ℕ → Result (List ℕ) Escape
 spelled body = spelled_from 0 1 body

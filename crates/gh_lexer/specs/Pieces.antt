@@ -15,6 +15,7 @@ use Rattle.gh_lexer.specs.Scan.{operator_class, comment_end}
 abbrev pub Sort : Type 0
 Sort = Result Class Wrong
 
+-- it is of this sort, if the test holds
 abbrev pub is_if : Bool → Sort → Option Sort
 is_if b sort = if b then Some sort else None
 
@@ -24,6 +25,7 @@ is_byte c [] = false
 is_byte c (d ∷ []) = d == c
 is_byte c (d ∷ e ∷ more) = false
 
+-- there is nothing more
 abbrev pub is_empty : List ℕ → Bool
 is_empty [] = true
 is_empty (c ∷ more) = false
@@ -51,12 +53,15 @@ after_name size [] = Some (Ok (class.Name name.ConId))
 after_name size (dot ∷ []) = None
 after_name size (dot ∷ d ∷ more) = if dot == 46 then part_piece size d more else None
 
+-- what may follow an upper-case letter
 abbrev pub large_piece : List ℕ → Option Sort
 large_piece xs = after_name (prefix_len is_name_char xs + 1) (drop (prefix_len is_name_char xs) xs)
 
+-- `e` or `E`
 abbrev pub is_e : ℕ → Bool
 is_e c = c == 101 || c == 69
 
+-- `+` or `-`
 abbrev pub is_sign : ℕ → Bool
 is_sign c = c == 43 || c == 45
 
@@ -68,6 +73,7 @@ after_digits (a ∷ b ∷ []) = is_if ((a == 46 || is_e a) && is_digit b) (Err w
 after_digits (a ∷ b ∷ c ∷ []) = is_if (is_e a && (is_sign b && is_digit c)) (Err wrong.NoToken)
 after_digits (a ∷ b ∷ c ∷ d ∷ more) = None
 
+-- what may follow the first digit of an integer
 abbrev pub number_piece : ℕ → List ℕ → Option Sort
 number_piece c xs =
     if c == 48 && is_based 120 88 is_hex xs then is_if (list_all is_hex (drop 1 xs)) (Ok class.Int)
@@ -86,6 +92,7 @@ abbrev pub text_piece : List ℕ → Option Sort
 text_piece [] = Some (Err wrong.OpenText)
 text_piece (c ∷ xs) = is_if (is_whole (close_at 0 (c ∷ xs)) (length (c ∷ xs))) (Ok class.Str)
 
+-- the item of a character literal, and nothing more than its closing quote
 abbrev pub closed_letter : Option Item → List ℕ → Option Sort
 closed_letter None xs = None
 closed_letter (Some i) xs = is_if (is_byte 39 (drop i.len xs)) (Ok class.Char)
@@ -105,6 +112,7 @@ abbrev pub brace_piece : List ℕ → Option Sort
 brace_piece [] = Some (Ok class.Mark)
 brace_piece (c ∷ xs) = if c == 45 then comment_piece xs else is_if (c == 124 && is_empty xs) (Ok class.Mark)
 
+-- what may follow a character that begins no name
 abbrev pub other_piece : ℕ → List ℕ → Option Sort
 other_piece c xs =
     if is_digit c then number_piece c xs

@@ -7,6 +7,7 @@ use Rattle.gh_lexer.specs.Chars.{begins}
 abbrev pub is_continued : ℕ → Bool
 is_continued c = nat_le 128 c && nat_le c 191
 
+-- the beginning of the next line
 abbrev pub next_line : Place → Place
 next_line p = record { line = p.line + 1; column = 1 }
 

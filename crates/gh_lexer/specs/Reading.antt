@@ -19,6 +19,7 @@ use Rattle.gh_lexer.specs.Literal.{integer_of, letter_at, spelled}
 use Rattle.gh_lexer.specs.Place.{moved, start}
 use Rattle.gh_lexer.specs.Scan.{scan_at}
 
+-- the bytes of a file from one place up to another
 abbrev pub span_at : ℕ → ℕ → ℕ → Span
 span_at file from to = record { file = file; from = from; to = to }
 
@@ -32,6 +33,7 @@ refusal_of file at wrong.NoToken = NoToken (byte_at file at)
 refusal_of file at wrong.OpenComment = OpenComment (byte_at file at)
 refusal_of file at wrong.OpenText = OpenText (byte_at file at)
 
+-- the token of a piece, if it is one, or why it is refused
 abbrev pub Valued : Type 0
 Valued = Result (Option Piece) Refusal
 
@@ -39,18 +41,22 @@ Valued = Result (Option Piece) Refusal
 abbrev pub named : ℕ → ℕ → ℕ → Piece → Valued
 named file at len p = if nat_lt 255 len then Err (NameTooLong (span_at file at (at + len))) else Ok (Some p)
 
+-- an integer is less than 2^63
 abbrev pub number : ℕ → ℕ → ℕ → ℕ → Valued
 number file at len n = if nat_lt n (2 ^ 63) then Ok (Some (Number n)) else Err (NumberOutOfRange (span_at file at (at + len)))
 
+-- a character literal gives one character
 abbrev pub letter_meant : ℕ → ℕ → ℕ → Meaning → Valued
 letter_meant file at len (meaning.Char c) = Ok (Some (Letter c))
 letter_meant file at len meaning.TooGreat = Err (NumberOutOfRange (span_at file (at + 1) (at + 1 + len)))
 letter_meant file at len meaning.Nothing = Err (OpenText (byte_at file at))
 
+-- a character literal by the item after its quote
 abbrev pub letter : ℕ → ℕ → Option Item → Valued
 letter file at None = Err (OpenText (byte_at file at))
 letter file at (Some i) = letter_meant file at i.len i.meaning
 
+-- a string by what its body spells
 abbrev pub text : ℕ → ℕ → Result (List ℕ) Escape → Valued
 text file at (Ok chars) = Ok (Some (Text chars))
 text file at (Err bad) = Err (NumberOutOfRange (span_at file (at + bad.from) (at + bad.to)))
@@ -76,6 +82,7 @@ pub record Where : Type 0 where
   pub place : Place
   pub last : ℕ
 
+-- a token where the reader stands
 abbrev pub lexeme_at : ℕ → Where → ℕ → Piece → Lexeme
 lexeme_at file w len p = record { piece = p; span = span_at file w.at (w.at + len); line = w.place.line; column = w.place.column; first = not (w.place.line == w.last) }
 
@@ -83,21 +90,26 @@ lexeme_at file w len p = record { piece = p; span = span_at file w.at (w.at + le
 abbrev pub skipped : ℕ → List ℕ → Where → Where
 skipped len bytes w = record { at = w.at + len; place = moved len bytes w.place; last = w.last }
 
+-- after a token of so many bytes
 abbrev pub passed : ℕ → List ℕ → Where → Where
 passed len bytes w = record { at = w.at + len; place = moved len bytes w.place; last = w.place.line }
 
+-- the tokens of a file, or its first refusal
 abbrev pub Lexemes : Type 0
 Lexemes = Result (List Lexeme) Refusal
 
+-- a token before those of the rest
 abbrev pub onto : Lexeme → Lexemes → Lexemes
 onto t (Ok ts) = Ok (t ∷ ts)
 onto t (Err r) = Err r
 
+-- a piece and then the rest, or its refusal
 abbrev pub on_value : ℕ → Where → List ℕ → ℕ → Valued → (Where → Lexemes) → Lexemes
 on_value file w bytes len (Err r) go = Err r
 on_value file w bytes len (Ok None) go = go (skipped len bytes w)
 on_value file w bytes len (Ok (Some p)) go = onto (lexeme_at file w len p) (go (passed len bytes w))
 
+-- what a scan found and then the rest, or its refusal
 abbrev pub on_scan : ℕ → Where → List ℕ → Result Scan Wrong → (ℕ → Where → Lexemes) → Lexemes
 on_scan file w bytes (Err why) go = Err (refusal_of file w.at why)
 on_scan file w bytes (Ok s) go = on_value file w bytes s.len (valued file w.at s.class (take s.len bytes)) (go s.len)
@@ -108,9 +120,11 @@ read_from file zero w bytes = Ok []
 read_from file (suc n) w [] = Ok []
 read_from file (suc n) w (c ∷ rest) = on_scan file w (c ∷ rest) (scan_at (c ∷ rest)) (λ len next. read_from file n next (drop len (c ∷ rest)))
 
+-- before the first byte
 abbrev pub beginning : Where
 beginning = record { at = 0; place = start; last = 0 }
 
+-- the tokens of a file that is UTF-8, or its first refusal
 unfoldable pub read : ℕ → List ℕ → Lexemes
 read file bytes = read_from file (length bytes) beginning bytes
 

@@ -12,6 +12,7 @@ use Rattle.gh_lexer.specs.declared.token.NameClass.TheVariants as name
 use Rattle.gh_lexer.specs.Chars.{is_small, is_large, is_digit, is_octal, is_hex, is_name_char, is_symbol, is_bracket, is_blank, is_in_line, is_dashes, is_word, is_operator, begins, begins_with}
 use Rattle.gh_lexer.specs.Literal.{is_based, letter_at, close_at}
 
+-- a piece of a class and so many bytes
 abbrev pub scanned : Class → ℕ → Result Scan Wrong
 scanned c n = Ok (record { class = c; len = n })
 
@@ -43,6 +44,7 @@ qualified_at size [] = scanned (class.Name name.ConId) size
 qualified_at size (dot ∷ []) = scanned (class.Name name.ConId) size
 qualified_at size (dot ∷ d ∷ more) = if dot == 46 then part_at size d more else scanned (class.Name name.ConId) size
 
+-- a name that begins with an upper-case letter
 abbrev pub large_at : List ℕ → Result Scan Wrong
 large_at rest = qualified_at (prefix_len is_name_char rest + 1) (drop (prefix_len is_name_char rest) rest)
 
@@ -67,6 +69,7 @@ decimal_at rest =
     if is_fraction (drop (prefix_len is_digit rest) rest) || is_exponent (drop (prefix_len is_digit rest) rest) then Err wrong.NoToken
     else scanned class.Int (prefix_len is_digit rest + 1)
 
+-- an integer by its first digit and the rest
 unfoldable pub number_at : ℕ → List ℕ → Result Scan Wrong
 number_at c rest =
     if c == 48 && is_based 120 88 is_hex rest then scanned class.Int (prefix_len is_hex (drop 1 rest) + 2)
@@ -81,6 +84,7 @@ operator_at c rest =
     else (if is_operator (c ∷ take (prefix_len is_symbol rest) rest) then scanned class.Mark (prefix_len is_symbol rest + 1)
     else scanned (class.Name (operator_class c)) (prefix_len is_symbol rest + 1))
 
+-- `|}`, or a run of symbol characters
 unfoldable pub symbol_at : ℕ → List ℕ → Result Scan Wrong
 symbol_at c rest = if c == 124 && begins 125 rest then scanned class.Mark 2 else operator_at c rest
 
@@ -98,6 +102,7 @@ comment_end false depth (c ∷ rest) =
     else (if c == 123 && begins 45 rest then option_map (λ n. suc n) (comment_end true (suc depth) rest)
     else option_map (λ n. suc n) (comment_end false depth rest))
 
+-- a literal or comment with its close, if it comes
 abbrev pub closed : Class → ℕ → Wrong → Option ℕ → Result Scan Wrong
 closed c before w None = Err w
 closed c before w (Some n) = scanned c (n + before)
@@ -108,6 +113,7 @@ brace_at rest =
     if begins 45 rest then closed class.Skip 2 wrong.OpenComment (comment_end false 0 (drop 1 rest))
     else (if begins 124 rest then scanned class.Mark 2 else scanned class.Mark 1)
 
+-- one item and a closing quote
 abbrev pub quoted : Option Item → List ℕ → Result Scan Wrong
 quoted None rest = Err wrong.OpenText
 quoted (Some i) rest = if begins 39 (drop i.len rest) then scanned class.Char (i.len + 2) else Err wrong.OpenText
@@ -130,6 +136,7 @@ other_at c rest =
     else (if c == 123 then brace_at rest
     else (if is_bracket c then scanned class.Mark 1 else Err wrong.NoToken)))))
 
+-- what stands at the front of the bytes
 unfoldable pub scan_at : List ℕ → Result Scan Wrong
 scan_at [] = Err wrong.NoToken
 scan_at (c ∷ rest) =

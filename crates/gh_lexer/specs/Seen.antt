@@ -8,6 +8,7 @@ use Rattle.gh_lexer.specs.declared.token.TokenKind.TheVariants as kind
 use Rattle.gh_lexer.specs.declared.token.Token.{Token}
 use Rattle.gh_lexer.specs.Lexeme.{Piece, Named, Word, Mark, Number, Letter, Text, Lexeme}
 
+-- a table of names as its texts
 abbrev pub Table : Type 0
 Table = List (List ℕ)
 
@@ -20,9 +21,11 @@ piece_in table (kind.Int n) = Number n
 piece_in table (kind.Char c) = Letter c
 piece_in table (kind.Str chars) = Text chars
 
+-- a token as texts and values
 abbrev pub lexeme_in : Table → Token → Lexeme
 lexeme_in table t = record { piece = piece_in table t.kind; span = t.span; line = t.line; column = t.column; first = t.first }
 
+-- tokens as texts and values
 abbrev pub lexemes_in : Table → List Token → List Lexeme
 lexemes_in table ts = map (lexeme_in table) ts
 
@@ -31,6 +34,7 @@ pub record IsPlaced (table : Table) (id : NameId) : Type 0 where
   pub known : id.0 < length table
   pub place : place_of table (text_in table id) ≡ Some id.0
 
+-- so is the id, if there is one
 abbrev pub IsPlacedIfSome : Table → Option NameId → Type 0
 IsPlacedIfSome table None = Unit {0}
 IsPlacedIfSome table (Some id) = IsPlaced table id
@@ -44,6 +48,7 @@ IdsPlaced table (kind.Int n) = Unit {0}
 IdsPlaced table (kind.Char c) = Unit {0}
 IdsPlaced table (kind.Str chars) = Unit {0}
 
+-- the ids of all these tokens
 abbrev pub AllPlaced : Table → List Token → Type 0
 AllPlaced table [] = Unit {0}
 AllPlaced table (t ∷ ts) = IdsPlaced table t.kind × AllPlaced table ts
@@ -52,6 +57,7 @@ AllPlaced table (t ∷ ts) = IdsPlaced table t.kind × AllPlaced table ts
 abbrev pub piece_if : Table → Option TokenKind → Option Piece
 piece_if table k = option_map (piece_in table) k
 
+-- the ids of a token, if there is one
 abbrev pub PlacedIfSome : Table → Option TokenKind → Type 0
 PlacedIfSome table None = Unit {0}
 PlacedIfSome table (Some k) = IdsPlaced table k

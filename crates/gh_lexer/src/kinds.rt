@@ -165,8 +165,8 @@ fn name_kind(
     bytes: &[u8],
 ) -> Result<TokenKind, Fault>
     requires { at + length bytes.now < 2 ^ 31 }
-    ensures piece { IfOk result (λ k. named file at (length bytes.now) (Named class None bytes.now) ≡ Ok (Some (piece_in names.new k))) }
-    ensures refused { (r : Refusal) → result ≡ Err (Fault.Refused r) → named file at (length bytes.now) (Named class None bytes.now) ≡ Err r }
+    ensures piece { IfOk result (λ k. valued file at (Class.Name class) bytes.now ≡ Ok (Some (piece_in names.new k))) }
+    ensures refused { (r : Refusal) → result ≡ Err (Fault.Refused r) → valued file at (Class.Name class) bytes.now ≡ Err r }
     ensures ids { IfOk result (λ k. IdsPlaced names.new k) }
     ensures grows { IsGrown names.old names.new }
 {
@@ -189,8 +189,8 @@ fn qualified_kind(
     bytes: &[u8],
 ) -> Result<TokenKind, Fault>
     requires { at + length bytes.now < 2 ^ 31 }
-    ensures piece { IfOk result (λ k. named file at (length bytes.now) (Named class (Some (take size bytes.now)) (drop 1 (drop size bytes.now))) ≡ Ok (Some (piece_in names.new k))) }
-    ensures refused { (r : Refusal) → result ≡ Err (Fault.Refused r) → named file at (length bytes.now) (Named class (Some (take size bytes.now)) (drop 1 (drop size bytes.now))) ≡ Err r }
+    ensures piece { IfOk result (λ k. valued file at (Class.Qualified class size) bytes.now ≡ Ok (Some (piece_in names.new k))) }
+    ensures refused { (r : Refusal) → result ≡ Err (Fault.Refused r) → valued file at (Class.Qualified class size) bytes.now ≡ Err r }
     ensures ids { IfOk result (λ k. IdsPlaced names.new k) }
     ensures grows { IsGrown names.old names.new }
 {

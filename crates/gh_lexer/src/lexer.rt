@@ -1,8 +1,8 @@
 // From bytes to tokens.
-ghost use Rattle.std.specs.Prelude.{◌≡◌, ◌≤◌, ◌<◌, ◌^◌, length, IfOk, Ok, Err};
+ghost use Rattle.std.specs.Prelude.{◌≡◌, ◌≤◌, ◌<◌, ◌^◌, length, IfOk, Ok, Err, ◌+◌, not, ◌==◌};
 ghost use Rattle.gh_base.specs.declared.refusal.Refusal.{Refusal};
 ghost use Rattle.gh_base.specs.Table.{IsGrown, grown_same};
-ghost use Rattle.gh_lexer.specs.Reading.{Lexemes, read, reading, refusal_of};
+ghost use Rattle.gh_lexer.specs.Reading.{Lexemes, read, reading, refusal_of, span_at};
 ghost use Rattle.gh_lexer.specs.Seen.{lexemes_in, AllPlaced};
 ghost use Rattle.gh_lexer.specs.Cut.{IsReading};
 
@@ -11,7 +11,7 @@ use crate::kinds::{kind_of, one_byte};
 use crate::place::{Place, advance};
 use crate::scan::Wrong;
 use crate::scanner::scan;
-use crate::token::Token;
+use crate::token::{Token, TokenKind};
 use gh_base::{Fault, ListOf, Names, Refusal, Span};
 use std::alloc::Global;
 
@@ -24,6 +24,32 @@ fn refusal(wrong: Wrong, file: u32, at: u32) -> Refusal
         Wrong::NoToken => Refusal::NoToken { span },
         Wrong::OpenComment => Refusal::OpenComment { span },
         Wrong::OpenText => Refusal::OpenText { span },
+    }
+}
+
+// A token of so many bytes, where the last token before it began on the line `last`.
+fn token_at(kind: TokenKind, file: u32, at: usize, len: usize, place: Place, last: u32) -> Token
+    requires { at + len < 2 ^ 31 }
+    ensures { result ≡ record {
+      kind = kind;
+      span = span_at file at (at + len);
+      line = place.line;
+      column = place.column;
+      first = not (place.line == last);
+    } }
+{
+    let span = Span {
+        file,
+        from: at as u32,
+        to: (at + len) as u32,
+    };
+    let first = place.line != last;
+    Token {
+        kind,
+        span,
+        line: place.line,
+        column: place.column,
+        first,
     }
 }
 
@@ -57,19 +83,7 @@ fn tokens_of(
         };
         let after = advance(place, rest, found.len);
         if let Some(kind) = kind {
-            let span = Span {
-                file,
-                from: at as u32,
-                to: (at + found.len) as u32,
-            };
-            let first = place.line != last;
-            tokens.push(Token {
-                kind,
-                span,
-                line: place.line,
-                column: place.column,
-                first,
-            })?;
+            tokens.push(token_at(kind, file, at, found.len, place, last))?;
             last = place.line;
         }
         place = after;
@@ -96,7 +110,8 @@ pub fn lex(
     // The reading cuts the file into white space, comments and pieces of tokens, each the longest at its place.
     ensures cut { IsReading file bytes.now (reading file bytes.now) }
     // A file has at most one reading.
-    ensures once { (a : Lexemes) → (b : Lexemes) → IsReading file bytes.now a → IsReading file bytes.now b → a ≡ b }
+    ensures once { (a : Lexemes) → (b : Lexemes)
+        → IsReading file bytes.now a → IsReading file bytes.now b → a ≡ b }
     // The ids are of the table, each the number that the table gives its text.
     ensures ids { IfOk result (λ ts. AllPlaced names.new ts) }
     ensures grows { IsGrown names.old names.new }

@@ -57,7 +57,7 @@ loop-at-preserved c =
             let step = token_step c.args.file bytes w c.loop-at-test.true c.loop-at.names c.loop-at.tokens c.loop-at.invariant.lexed c.in-Ok.found found c.in-Ok.ensures.within.some within
             c.advance-after.result place c.advance-after.ensures.line c.advance-after.ensures.column c.kind_of.new.names c.kind_of.ensures.grows t
             (value ∙ ap (λ k. Ok (piece_if c.kind_of.new.names k)) s.in-Some.is) ids refl in
-            rw (s.tokens-is, s.in_ok-push.ensures.ok, s.last-is) step
+            rw (s.tokens-is, s.in_ok-push.ensures.ok, s.token_at.ensures, s.last-is) step
         | in_default s ↦
             let none : c.in-Ok-kind_of.kind ≡ None = s.in_default.is in
             let step = skip_step c.args.file bytes w c.loop-at-test.true c.loop-at.names c.loop-at.tokens c.loop-at.invariant.lexed c.in-Ok.found found c.in-Ok.ensures.within.some within
