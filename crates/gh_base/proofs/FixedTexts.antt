@@ -1,5 +1,5 @@
 -- The fixed texts are all different.
-use Rattle.std.proofs.Common.{◌≡◌, ℕ, List, [], map, refl, ap, ◌∙◌}
+use Rattle.std.proofs.Common.{◌≡◌, [], refl}
 use Rattle.gh_base.specs.Fixed.{fixed_texts}
 use Rattle.gh_base.specs.Table.{with_all}
 

@@ -30,85 +30,184 @@ pub enum Limit {
 #[derive(Debug, Drop)]
 pub enum Refusal {
     /// 1: the first byte of the first ill-formed sequence of the file.
-    NotUtf8 { span: Span },
+    NotUtf8 {
+        span: Span,
+    },
     /// 2: a byte at which no token begins, or the first byte of a piece that is no token.
-    NoToken { span: Span },
+    NoToken {
+        span: Span,
+    },
     /// 3: the first byte of a `{-` that has no close.
-    OpenComment { span: Span },
+    OpenComment {
+        span: Span,
+    },
     /// 4: the opening quote of a literal with no close on its line, or with a wrong character or escape.
-    OpenText { span: Span },
+    OpenText {
+        span: Span,
+    },
     /// 5: an integer of 2^63 or more, or a numeric escape that is no Unicode scalar value.
-    NumberOutOfRange { span: Span },
+    NumberOutOfRange {
+        span: Span,
+    },
     /// 6: a name of more than 255 bytes.
-    NameTooLong { span: Span },
+    NameTooLong {
+        span: Span,
+    },
     /// 7: the token at which the layout rules have no answer.
-    BadLayout { span: Span },
+    BadLayout {
+        span: Span,
+    },
     /// 8: the token whose bracket, brace or keyword is left open at the end.
-    Unclosed { span: Span },
+    Unclosed {
+        span: Span,
+    },
     /// 9: the first top item whose tokens are those of no tree.
-    NoParse { span: Span },
+    NoParse {
+        span: Span,
+    },
     /// 10: a top item whose tree is deeper than 2,000.
-    TooDeep { span: Span },
+    TooDeep {
+        span: Span,
+    },
     /// 11: an operator list with no arrangement: `left` and `right` are the operators that clash.
-    FixityClash { span: Span, left: NameId, right: NameId },
+    FixityClash {
+        span: Span,
+        left: NameId,
+        right: NameId,
+    },
     /// 12: an import of a module that is not there.
-    UnknownModule { span: Span, name: NameId },
+    UnknownModule {
+        span: Span,
+        name: NameId,
+    },
     /// 13: the first import that lies on a cycle: `names` is the shortest cycle through it.
-    CyclicImports { span: Span, names: ListOf<NameId> },
+    CyclicImports {
+        span: Span,
+        names: ListOf<NameId>,
+    },
     /// 14: an import item that the module does not export.
-    NotExported { span: Span, name: NameId },
+    NotExported {
+        span: Span,
+        name: NameId,
+    },
     /// 15: a second module of one name, or one named Prelude.
-    DoubleModule { span: Span, name: NameId },
+    DoubleModule {
+        span: Span,
+        name: NameId,
+    },
     /// 16: a use of a name that has no origin.
-    UnknownName { span: Span, name: NameId },
+    UnknownName {
+        span: Span,
+        name: NameId,
+    },
     /// 17: a use of a name that has two origins or more.
-    AmbiguousName { span: Span, name: NameId },
+    AmbiguousName {
+        span: Span,
+        name: NameId,
+    },
     /// 18: a second definition, signature or fixity of a name in one list.
-    DoubleDefinition { span: Span, name: NameId },
+    DoubleDefinition {
+        span: Span,
+        name: NameId,
+    },
     /// 19: a clause with another number of arguments than the first.
-    UnequalArity { span: Span, name: NameId },
+    UnequalArity {
+        span: Span,
+        name: NameId,
+    },
     /// 20: a variable that stands twice in one pattern list or declaration head.
-    RepeatedVariable { span: Span, name: NameId },
+    RepeatedVariable {
+        span: Span,
+        name: NameId,
+    },
     /// 21: a pattern that gives a constructor another number of fields.
-    ConstructorArity { span: Span, name: NameId },
+    ConstructorArity {
+        span: Span,
+        name: NameId,
+    },
     /// 22: a plain signature or fixity with no definition in its list.
-    SignatureAlone { span: Span, name: NameId },
+    SignatureAlone {
+        span: Span,
+        name: NameId,
+    },
     /// 23: a synonym that reaches itself through synonyms.
-    SynonymCycle { span: Span, name: NameId },
+    SynonymCycle {
+        span: Span,
+        name: NameId,
+    },
     /// 24: a synonym with fewer arguments than parameters.
-    SynonymArity { span: Span, name: NameId },
+    SynonymArity {
+        span: Span,
+        name: NameId,
+    },
     /// 25: a node at which the kinding rules fail.
-    KindClash { span: Span },
+    KindClash {
+        span: Span,
+    },
     /// 26: a node whose kinds pass 63 nodes.
-    KindTooLarge { span: Span },
+    KindTooLarge {
+        span: Span,
+    },
     /// 27: a node at which the typing rules fail.
-    TypeClash { span: Span },
+    TypeClash {
+        span: Span,
+    },
     /// 28: a node whose types pass 1,000 nodes.
-    TypeTooLarge { span: Span },
+    TypeTooLarge {
+        span: Span,
+    },
     /// 29: a signature of a generic function that breaks the rule of that number, from 1.
-    BadSignature { span: Span, rule: u32 },
+    BadSignature {
+        span: Span,
+        rule: u32,
+    },
     /// 30: `x` depends on `y` and `y` on `z`, and `x` does not depend on `z`.
-    NotClosed { span: Span, x: NameId, y: NameId, z: NameId },
+    NotClosed {
+        span: Span,
+        x: NameId,
+        y: NameId,
+        z: NameId,
+    },
     /// 31: the head of a case, or its module, is not allowed.
-    BadCaseHead { span: Span },
+    BadCaseHead {
+        span: Span,
+    },
     /// 32: a second case for one head.
-    DoubleCase { span: Span },
+    DoubleCase {
+        span: Span,
+    },
     /// 33: a generic call that is not available: `function` does not stand at `name`.
-    MissingDependency { span: Span, function: NameId, name: NameId },
+    MissingDependency {
+        span: Span,
+        function: NameId,
+        name: NameId,
+    },
     /// 34: a needed pair with no case and no representation, after the pairs that lead to it.
-    NoCase { span: Span, chain: ListOf<(Origin, TyCon)> },
+    NoCase {
+        span: Span,
+        chain: ListOf<(Origin, TyCon)>,
+    },
     /// 35: an `extends` that is not allowed.
-    BadExtends { span: Span },
+    BadExtends {
+        span: Span,
+    },
     /// 36: the file has more than 1,048,576 bytes; the span is the empty one at its byte 0.
-    FileTooLong { span: Span },
+    FileTooLong {
+        span: Span,
+    },
     /// 37: there are more than 64 files.
     TooManyFiles,
     /// 38: there is no module Main, or it exports no plain `main`.
     NoMain,
     /// 39: `main` is no text: `[Char]` is no instance of its type.
-    MainNotText { span: Span },
+    MainNotText {
+        span: Span,
+    },
     /// 40: a counted thing passes its limit.
-    LimitPassed { span: Span, which: Limit },
+    LimitPassed {
+        span: Span,
+        which: Limit,
+    },
 }
 
 impl Refusal {

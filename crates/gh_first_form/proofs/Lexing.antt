@@ -1,12 +1,12 @@
 -- What the loop over a file keeps.
-use Rattle.std.proofs.Common.{◌≡◌, ℕ, zero, suc, ◌+◌, ◌-◌, ◌<◌, ◌≤◌, Bool, true, false, if◌then◌else◌, List, [], ◌∷◌, ◌++◌, length, map, take, drop, get_or, Option, Some, None, Result, Ok, Err, refl, sym, ap, ◌∙◌, arith, append_assoc, length-append, length-drop, drop-drop, append-nil, add-one, subst}
+use Rattle.std.proofs.Common.{◌≡◌, ℕ, zero, suc, ◌+◌, ◌<◌, ◌≤◌, true, false, if◌then◌else◌, List, [], ◌∷◌, ◌++◌, length, take, drop, get_or, Option, Some, None, Result, Ok, Err, refl, sym, ap, ◌∙◌, arith, append_assoc, length-append, length-drop, drop-drop, append-nil, add-one}
 use Rattle.std.proofs.lemmas.List.{map-append, drop_all}
 use Rattle.std.proofs.Math.Seq.{drop-cons}
 use Rattle.std.proofs.Math.ListN.{get_or-append}
 use Rattle.gh_base.specs.declared.names.NameId.{NameId}
 use Rattle.gh_base.specs.Ids.{text_in}
 use Rattle.gh_base.specs.Table.{IsGrown}
-use Rattle.gh_first_form.specs.Lexeme.{Lexeme, Piece, Word, Mark, Unread}
+use Rattle.gh_first_form.specs.Lexeme.{Lexeme, Word, Mark}
 use Rattle.gh_first_form.specs.Reading.{is_blank, scan_at, piece_of, read_from, then_on, onto, after, reading}
 use Rattle.gh_first_form.specs.Seen.{Table, piece_in, named, lexeme_in, lexemes_in, IsKnown, AllKnown}
 use Rattle.gh_first_form.specs.declared.scan.Scan.{Scan}

@@ -1,7 +1,5 @@
 -- Tokens read by a table of names.
-use Rattle.std.specs.Prelude.{◌≡◌, ℕ, ◌<◌, List, [], ◌∷◌, ◌++◌, length, map, slice_index_or, Option, Some, None, Result, Ok, Err}
-use Rattle.gh_base.specs.declared.Span.{Span}
-use Rattle.gh_base.specs.declared.NameId.{NameId}
+use Rattle.std.specs.Prelude.{ℕ, ◌<◌, List, [], ◌∷◌, length, map, Some, None}
 use Rattle.gh_lexer.specs.declared.NameClass.{NameClass}
 use Rattle.gh_lexer.specs.declared.NameClass.TheVariants as class
 use Rattle.gh_lexer.specs.declared.TokenKind.{TokenKind}

@@ -1,5 +1,5 @@
 -- Counts of faults, and what calls do to bytes.
-use Rattle.std.specs.Prelude.{◌≡◌, ℕ, ◌+◌, ◌-◌, ◌^◌, ◌≤◌, min, List, ◌++◌, take, length, Option, Some, None, MatchOption, option_map}
+use Rattle.std.specs.Prelude.{◌≡◌, ℕ, ◌+◌, ◌-◌, ◌^◌, ◌≤◌, min, List, ◌++◌, take, Option, Some, option_map}
 
 -- a count went up, or stands at its last value
 abbrev pub Rose : ℕ → ℕ → Type 0

@@ -1,5 +1,5 @@
-use Rattle.std.proofs.Common.{◌≡◌, rules, slice_get, ℕ, List, false, true, Some, None, is_some, ◌∷◌, [], ◌++◌, ◌∙◌, sym, ap, if◌then◌else◌}
-use Rattle.gh_base.specs.Table.{with_text, has_text, place_of}
+use Rattle.std.proofs.Common.{◌≡◌, rules, slice_get, false, is_some, ◌∙◌, sym, ap}
+use Rattle.gh_base.specs.Table.{has_text, place_of}
 use Rattle.gh_base.proofs.Texts.{texts, any_texts, found_text, inserted, kept, last_at, length-texts}
 use Rattle.gh_base.proofs.Places.{found_place, last_place}
 use Rattle.gh_base.proofs.names.Names.add.Goals as goal

@@ -1,4 +1,4 @@
-use Rattle.std.proofs.Common.{◌≡◌, refl, ap, map, ◌∙◌, [], List, ℕ}
+use Rattle.std.proofs.Common.{◌≡◌, ap, ◌∙◌, []}
 use Rattle.gh_base.specs.Fixed.{fixed_texts}
 use Rattle.gh_base.specs.Table.{with_all}
 use Rattle.gh_base.proofs.FixedTexts.{all_new}
