@@ -51,7 +51,11 @@ fn main(rt: HostRuntime) -> ExitCode {
             let Ok(bytes) = shelf.read_file(file, MOST as u64) else {
                 return ExitCode::from(5);
             };
-            let Some(tokens) = count(alloc, bytes.as_slice(), phase.as_slice() == b"lay".as_slice()) else {
+            let Some(tokens) = count(
+                alloc,
+                bytes.as_slice(),
+                phase.as_slice() == b"lay".as_slice(),
+            ) else {
                 return ExitCode::from(1);
             };
             let mut buffer = Buffer::new();
