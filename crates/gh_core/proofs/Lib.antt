@@ -1,0 +1,5 @@
+pub mod Close
+pub mod Examples
+pub mod Nameless
+pub mod Runs
+pub mod Shapes

@@ -1,0 +1,10 @@
+pub mod Closing
+pub mod Erase
+pub mod Primitives
+pub mod Read
+pub mod Reading
+pub mod Reduce
+pub mod Run
+pub mod SameType
+pub mod Scopes
+pub mod Terms

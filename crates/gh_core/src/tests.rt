@@ -1,0 +1,152 @@
+// Small cases, worked out by hand.
+use crate::{
+    CoreAlt, CoreName, CoreProgram, CoreTerm, CoreType, Def, ErasedAlt, ErasedTerm, erase_core,
+    same_type,
+};
+use gh_base::{ListOf, NameId, NoMemory, Origin, Space, Span, TyCon};
+use gh_typeterm::{DeclCon, DeclData, Kind};
+use sqlite_items::Boxed;
+use std::alloc::Global;
+use std::process::Abort;
+use std::test::Fail;
+
+// `forall a. forall b. a (b -> a)`, with these numbers for `a` and `b`
+fn quantified(alloc: Global, a: u32, b: u32, last: u32) -> Result<CoreType, NoMemory> {
+    let arrow = Boxed::new(alloc, CoreType::Con(TyCon::Arrow))?;
+    let from = CoreType::App(arrow, Boxed::new(alloc, CoreType::Var(b))?);
+    let function = CoreType::App(
+        Boxed::new(alloc, from)?,
+        Boxed::new(alloc, CoreType::Var(last))?,
+    );
+    let inner = CoreType::Forall(b, Kind::Star, Boxed::new(alloc, function)?);
+    Ok(CoreType::Forall(a, Kind::Star, Boxed::new(alloc, inner)?))
+}
+
+#[test]
+fn compares_types(rt: HostRuntime) -> Result<(), Fail> {
+    let alloc = rt.alloc();
+    let first = quantified(alloc, 0, 1, 0)?;
+    assert!(rt; same_type(&first, &quantified(alloc, 7, 3, 7)?));
+    assert!(rt; same_type(&first, &quantified(alloc, 1, 0, 1)?));
+    assert!(rt; !same_type(&first, &quantified(alloc, 0, 1, 1)?));
+    assert!(rt; !same_type(&first, &quantified(alloc, 0, 0, 0)?));
+    assert!(rt; !same_type(&first, &quantified(alloc, 0, 1, 2)?));
+    assert!(rt; same_type(&quantified(alloc, 4, 1, 2)?, &quantified(alloc, 5, 6, 2)?));
+    Ok(())
+}
+
+#[test]
+fn compares_leaves(rt: HostRuntime) -> Result<(), Fail> {
+    assert!(rt; same_type(&CoreType::Var(4), &CoreType::Var(4)));
+    assert!(rt; !same_type(&CoreType::Var(4), &CoreType::Var(5)));
+    assert!(rt; !same_type(&CoreType::Any(Kind::Star), &CoreType::Con(TyCon::Int)));
+    assert!(rt; same_type(&CoreType::Any(Kind::Star), &CoreType::Any(Kind::Star)));
+    Ok(())
+}
+
+fn value(name: u32) -> Origin {
+    Origin {
+        module: NameId(48),
+        space: Space::Values,
+        name: NameId(name),
+    }
+}
+
+fn declared(alloc: Global, name: u32, is_newtype: bool) -> Result<DeclData, NoMemory> {
+    let mut constructors = ListOf::new(alloc);
+    constructors.push(DeclCon {
+        origin: value(name),
+        fields: ListOf::new(alloc),
+    })?;
+    Ok(DeclData {
+        origin: value(name + 100),
+        is_newtype,
+        params: ListOf::new(alloc),
+        constructors,
+    })
+}
+
+// `\t -> \(x : t) -> letrec y : Int = 5 in case x of { C z -> z; else stop }`, applied to a type
+fn function(alloc: Global, place: Span) -> Result<CoreTerm, NoMemory> {
+    let mut names = ListOf::new(alloc);
+    names.push(3)?;
+    let mut alternatives = ListOf::new(alloc);
+    alternatives.push(CoreAlt::Con(value(1), names, CoreTerm::Var(3)))?;
+    let scrutinee = Boxed::new(alloc, CoreTerm::Var(1))?;
+    let stop = CoreTerm::Stop(place, CoreType::Con(TyCon::Int));
+    let otherwise = Some(Boxed::new(alloc, stop)?);
+    let int = CoreType::Con(TyCon::Int);
+    let case = Boxed::new(
+        alloc,
+        CoreTerm::Case(scrutinee, int, alternatives, otherwise),
+    )?;
+    let mut bindings = ListOf::new(alloc);
+    bindings.push((2, CoreType::Con(TyCon::Int), CoreTerm::Int(5)))?;
+    let bound = Boxed::new(alloc, CoreTerm::LetRec(bindings, case))?;
+    let inner = Boxed::new(alloc, CoreTerm::Lam(1, CoreType::Var(0), bound))?;
+    let outer = Boxed::new(alloc, CoreTerm::TyLam(0, Kind::Star, inner))?;
+    Ok(CoreTerm::TyApp(outer, CoreType::Con(TyCon::Char)))
+}
+
+fn program(alloc: Global, place: Span) -> Result<CoreProgram, NoMemory> {
+    let mut decls = ListOf::new(alloc);
+    decls.push(declared(alloc, 1, false)?)?;
+    decls.push(declared(alloc, 2, true)?)?;
+    let mut defs = ListOf::new(alloc);
+    defs.push(Def {
+        name: CoreName::Plain(value(9)),
+        ty: CoreType::Con(TyCon::Int),
+        term: function(alloc, place)?,
+    })?;
+    let main = CoreTerm::Global(CoreName::Plain(value(9)));
+    Ok(CoreProgram { decls, defs, main })
+}
+
+#[test]
+fn erases(rt: HostRuntime) -> Result<(), Fail> {
+    let alloc = rt.alloc();
+    let place = Span {
+        file: 1,
+        from: 2,
+        to: 3,
+    };
+    let erased = erase_core(alloc, &program(alloc, place)?)?;
+    assert!(rt; erased.newtypes.as_slice() == [value(2)].as_slice());
+    assert!(rt;
+        matches!(&erased.main, ErasedTerm::Global(name) if *name == CoreName::Plain(value(9)))
+    );
+    let found = match erased.defs.as_slice() {
+        [(name, ErasedTerm::Lam(1, body))] => *name == CoreName::Plain(value(9))
+            && is_body(body.get(), place),
+        _ => false,
+    };
+    assert!(rt; found);
+    Ok(())
+}
+
+// `letrec y = 5 in case x of { C z -> z; else stop }`
+fn is_body(term: &ErasedTerm, place: Span) -> bool {
+    let ErasedTerm::LetRec(bindings, case) = term else {
+        return false;
+    };
+    if !matches!(bindings.as_slice(), [(2, ErasedTerm::Int(5))]) {
+        return false;
+    }
+    match case.get() {
+        ErasedTerm::Case(scrutinee, alternatives, Some(otherwise)) => {
+            matches!(scrutinee.get(), ErasedTerm::Var(1))
+                && matches!(otherwise.get(), ErasedTerm::Stop(at) if *at == place)
+                && is_alternative(alternatives.as_slice())
+        }
+        _ => false,
+    }
+}
+
+fn is_alternative(alternatives: &[ErasedAlt]) -> bool {
+    match alternatives {
+        [ErasedAlt::Con(con, names, ErasedTerm::Var(3))] => {
+            *con == value(1) && names.as_slice() == [3].as_slice()
+        }
+        _ => false,
+    }
+}

@@ -1,0 +1,9 @@
+pub mod Complete
+pub mod Examples
+pub mod Frames
+pub mod Grammar
+pub mod Laws
+pub mod Places
+pub mod Sound
+pub mod Turns
+pub mod Whole

@@ -1,0 +1,4 @@
+pub mod Checks
+pub mod Examples
+pub mod Law
+pub mod Right

@@ -1,0 +1,8 @@
+use Rattle.gh_groups.specs.Grouping.{AreBelow}
+use Rattle.gh_groups.proofs.tests.small.Given as goal
+
+abbrev pub invariant-loop-from : goal.invariant-loop-from
+invariant-loop-from l = AreBelow 4 l.edges
+
+abbrev pub invariant-loop-to : goal.invariant-loop-to
+invariant-loop-to l = AreBelow 4 l.edges
