@@ -1,8 +1,13 @@
+pub mod Cycles
 pub mod Fronts
 pub mod Keeping
 pub mod Known
+pub mod Links
+pub mod Listed
+pub mod Placed
 pub mod Plain
 pub mod Runs
+pub mod Scoping
 pub mod Splits
 pub mod Texts
 pub mod Tops

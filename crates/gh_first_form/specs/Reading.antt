@@ -1,12 +1,12 @@
 -- The reading of a file as tokens.
-use Rattle.std.specs.Prelude.{◌≡◌, ◌<◌, ◌≤◌, ℕ, zero, suc, ◌+◌, ◌-◌, Bool, true, false, not, ◌&&◌, ◌||◌, ◌==◌, nat_le, if◌then◌else◌, List, [], ◌∷◌, ◌++◌, length, take, drop, Option, Some, None, Result, Ok, Err}
+use Rattle.std.specs.Prelude.{◌≡◌, ◌<◌, ◌≤◌, ℕ, zero, suc, ◌+◌, ◌-◌, Bool, false, not, ◌&&◌, ◌||◌, ◌==◌, nat_le, if◌then◌else◌, List, [], ◌∷◌, ◌++◌, length, take, drop, Option, Some, None, Result, Ok, Err}
 use Rattle.std.specs.List.{list_any, prefix_len}
 use Rattle.std.specs.Str.{bytes_eq}
 use Rattle.gh_first_form.specs.declared.scan.TheConstants.{RESERVED}
 use Rattle.gh_first_form.specs.declared.scan.Class.{Class}
 use Rattle.gh_first_form.specs.declared.scan.Class.TheVariants as class
 use Rattle.gh_first_form.specs.declared.scan.Scan.{Scan}
-use Rattle.gh_first_form.specs.Lexeme.{Piece, VarId, ConId, VarSym, Word, Mark, Str, Unread, Lexeme}
+use Rattle.gh_first_form.specs.Lexeme.{Piece, VarId, ConId, VarSym, Word, Mark, Str, Lexeme}
 
 abbrev pub is_small : ℕ → Bool
 is_small c = (nat_le 97 c && nat_le c 122) || c == 95

@@ -208,21 +208,9 @@ fn kind_of(
     ensures grows { IsGrown names.old names.new }
 {
     match class {
-        Class::Var => Ok(TokenKind::Name(
-            NameClass::VarId,
-            None,
-            names.intern(text)?,
-        )),
-        Class::Con => Ok(TokenKind::Name(
-            NameClass::ConId,
-            None,
-            names.intern(text)?,
-        )),
-        Class::Sym => Ok(TokenKind::Name(
-            NameClass::VarSym,
-            None,
-            names.intern(text)?,
-        )),
+        Class::Var => Ok(TokenKind::Name(NameClass::VarId, None, names.intern(text)?)),
+        Class::Con => Ok(TokenKind::Name(NameClass::ConId, None, names.intern(text)?)),
+        Class::Sym => Ok(TokenKind::Name(NameClass::VarSym, None, names.intern(text)?)),
         Class::Word => Ok(TokenKind::Word(names.intern(text)?)),
         Class::Mark => Ok(TokenKind::Mark(names.intern(text)?)),
         Class::Str => Ok(TokenKind::Str(chars_of(alloc, &text[1..text.len() - 1])?)),

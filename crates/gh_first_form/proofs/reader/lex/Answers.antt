@@ -1,8 +1,7 @@
-use Rattle.std.proofs.Common.{◌≡◌, ◌<◌, ◌≤◌, rules, arith, true, false, length, drop, take, Some, None, sym, ap, ◌∙◌}
-use Rattle.gh_base.specs.Table.{IsGrown, grown_same, grown_then}
-use Rattle.gh_first_form.specs.Reading.{is_blank, scan_at, piece_of}
-use Rattle.gh_first_form.specs.Seen.{piece_in, IsKnown}
-use Rattle.gh_first_form.proofs.Lexing.{Lexed, started, blank_step, refused_at, token_step, finished}
+use Rattle.std.proofs.Common.{◌≡◌, ◌≤◌, length, drop, take, Some, None, sym, ap, ◌∙◌}
+use Rattle.gh_base.specs.Table.{grown_same, grown_then}
+use Rattle.gh_first_form.specs.Reading.{scan_at, piece_of}
+use Rattle.gh_first_form.proofs.Lexing.{started, blank_step, refused_at, token_step, finished}
 use Rattle.gh_first_form.proofs.reader.lex.Goals as goal
 
 pub loop-at-init : goal.loop-at-init
