@@ -1,11 +1,10 @@
 -- Names that lead back to themselves run for ever.
-use Rattle.std.proofs.Common.{◌≡◌, ℕ, zero, suc, ◌+◌, ◌*◌, ◌-◌, ◌≤◌, List, [], ◌∷◌, ◌++◌, refl, sym, ap, ◌∙◌, arith, subst}
+use Rattle.std.proofs.Common.{◌≡◌, ℕ, zero, suc, ◌+◌, ◌-◌, ◌≤◌, List, [], ◌∷◌, ◌++◌, refl, sym, ap, ◌∙◌, arith, subst}
 use Rattle.std.specs.Prelude.{codes}
 use Rattle.std.specs.Char.{encode_utf8}
-use Rattle.gh_driver.specs.Keeps.{Seen, Running}
+use Rattle.gh_driver.specs.Keeps.{Running}
 use Rattle.gh_driver.specs.Program.{Binding}
-use Rattle.gh_driver.specs.Meaning.{Demand, Name, Cells, Point, unfolded, act, acts, seen_at, meaning}
-use Rattle.gh_driver.specs.Core.{program_of, core}
+use Rattle.gh_driver.specs.Meaning.{Demand, Name, Cells, Point, unfolded, act, acts, seen_at}
 use Rattle.gh_driver.specs.Cycles.{demand_after, CyclesRunForEver}
 use Rattle.gh_driver.proofs.Keeping.{same}
 

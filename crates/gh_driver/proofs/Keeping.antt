@@ -7,9 +7,9 @@ use Rattle.gh_driver.specs.declared.terms.Term.{Term}
 use Rattle.gh_driver.specs.declared.terms.Term.TheVariants as term
 use Rattle.gh_driver.specs.declared.terms.Program.{Program}
 use Rattle.gh_driver.specs.Program.{Operand, Named, Text, Binding, place_in}
-use Rattle.gh_driver.specs.Keeps.{Seen, State, Running, Ended, Failed, IsOver, Reaches, Keeps}
-use Rattle.gh_driver.specs.Meaning.{Demand, Name, Cells, Point, demand_of, unfolded, act, acts, state_at, seen_at, meaning}
-use Rattle.gh_driver.specs.Core.{term_of, program_of, Run, reduce, reduced, core_run, is_over, has_ended, printed_by, state_of, core}
+use Rattle.gh_driver.specs.Keeps.{Seen, IsOver, Reaches}
+use Rattle.gh_driver.specs.Meaning.{Demand, Name, Cells, demand_of, unfolded, acts, seen_at, meaning}
+use Rattle.gh_driver.specs.Core.{term_of, program_of, reduce, reduced, core_run, is_over, has_ended, printed_by, state_of, core}
 use Rattle.gh_driver.specs.Keeping.{CoreKeepsMeaning}
 
 -- the term of a demand

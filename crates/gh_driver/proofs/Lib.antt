@@ -1,4 +1,5 @@
 pub mod Cycles
+pub mod Examples
 pub mod Fronts
 pub mod Keeping
 pub mod Known

@@ -1,9 +1,8 @@
 -- The steps of the link.
-use Rattle.std.proofs.Common.{◌≡◌, ℕ, ◌+◌, ◌<◌, ◌≤◌, List, [], ◌∷◌, map, take, drop, length, get_or, Option, Some, None, option_map, refl, sym, ap, ◌∙◌}
+use Rattle.std.proofs.Common.{◌≡◌, ℕ, ◌+◌, ◌<◌, ◌≤◌, List, [], ◌∷◌, map, take, drop, length, get_or, Option, Some, None, option_map, refl, ap, ◌∙◌}
 use Rattle.std.proofs.lemmas.List.{take_all}
 use Rattle.gh_base.specs.declared.Refusal.{Refusal}
 use Rattle.gh_driver.specs.declared.program.Binding.{Binding as Bound}
-use Rattle.gh_driver.specs.declared.terms.Term.{Term}
 use Rattle.gh_driver.specs.Check.{unknown_name}
 use Rattle.gh_driver.specs.Core.{term_of}
 use Rattle.gh_driver.specs.Lines.{Table}

@@ -1,5 +1,5 @@
 -- Bindings whose ids are of the table, each the one of its text.
-use Rattle.std.proofs.Common.{◌≡◌, ℕ, zero, suc, ◌+◌, ◌<◌, ◌≤◌, Bool, true, false, ◌||◌, not, cond, if◌then◌else◌, List, [], ◌∷◌, ◌++◌, take, drop, length, get_or, map, Option, Some, None, option_map, refl, sym, ap, ◌∙◌, arith, subst, nat_eq}
+use Rattle.std.proofs.Common.{◌≡◌, ℕ, zero, suc, ◌+◌, ◌<◌, Bool, true, false, ◌||◌, not, cond, if◌then◌else◌, List, [], ◌∷◌, ◌++◌, length, get_or, Some, refl, sym, ap, ◌∙◌, arith, subst, nat_eq}
 use Rattle.std.specs.List.{list_any, position_or_len}
 use Rattle.std.specs.Str.{bytes_eq}
 use Rattle.std.proofs.lemmas.List.{map-append}
@@ -13,7 +13,7 @@ use Rattle.gh_driver.specs.Check.{id_at, id_of}
 use Rattle.gh_driver.specs.declared.program.Binding.{Binding as Bound}
 use Rattle.gh_driver.specs.Lines.{Table}
 use Rattle.gh_driver.specs.Named.{binding_in, bindings_in, OperandPlaced, BindingPlaced, BindingsPlaced}
-use Rattle.gh_driver.specs.Program.{Binding, has_name, place_in}
+use Rattle.gh_driver.specs.Program.{has_name, place_in}
 
 placed_at : (table : Table) (bs : List Bound) (i : ℕ) (d : Bound) → BindingsPlaced table bs → i < length bs → BindingPlaced table (get_or bs i d)
 placed_at table [] i d p h = absurd (omega arith)

@@ -1,5 +1,5 @@
 -- The refusals of the first form: their names are of the table, and they are of the one file.
-use Rattle.std.proofs.Common.{◌≡◌, ℕ, ◌<◌, Bool, true, false, List, [], ◌∷◌, length, Option, Some, None, Result, Ok, Err, refl, sym, ap, subst, arith, if◌then◌else◌}
+use Rattle.std.proofs.Common.{◌≡◌, ℕ, Bool, true, false, List, [], ◌∷◌, length, Option, Some, None, Result, Ok, Err, sym, subst, arith, if◌then◌else◌}
 use Rattle.std.specs.Prelude.{nat_lt, codes}
 use Rattle.gh_base.specs.declared.NameId.{NameId}
 use Rattle.gh_base.specs.declared.Refusal.{Refusal}

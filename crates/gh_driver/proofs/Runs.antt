@@ -1,12 +1,11 @@
 -- What a run prints.
-use Rattle.std.proofs.Common.{◌≡◌, ℕ, zero, suc, ◌+◌, ◌<◌, ◌≤◌, Bool, true, false, List, [], ◌∷◌, ◌++◌, length, take, Option, None, Some, refl, sym, ap, ◌∙◌, arith, append_assoc, append-nil, option_map, drop, get_or, min, ◌-◌, length-append, take-append-drop}
+use Rattle.std.proofs.Common.{◌≡◌, ℕ, zero, suc, ◌+◌, ◌<◌, ◌≤◌, true, false, List, [], ◌∷◌, ◌++◌, length, take, Option, None, Some, refl, sym, ap, ◌∙◌, arith, append_assoc, append-nil, option_map, drop, get_or, min, take-append-drop}
 use Rattle.std.proofs.lemmas.List.{take_more, take_all, get_or_past}
 use Rattle.std.proofs.lemmas.Str.{encodes-append}
 use Rattle.std.specs.Char.{encode_utf8}
 use Rattle.std.specs.Str.{encode_utf8_all}
 use Rattle.gh_outside.specs.Outside.{Appends, AppendsFront}
-use Rattle.gh_driver.specs.Core.{Run, reduce, reduced, core_run, is_over, has_ended, printed_by}
-use Rattle.gh_driver.specs.declared.terms.Term.{Term}
+use Rattle.gh_driver.specs.Core.{reduced, core_run, is_over, has_ended, printed_by}
 use Rattle.gh_driver.specs.declared.terms.Term.TheVariants.{Global, Text}
 use Rattle.gh_driver.specs.declared.terms.Program.{Program}
 

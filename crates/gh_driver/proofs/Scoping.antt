@@ -10,7 +10,7 @@ use Rattle.gh_base.specs.declared.Refusal.TheVariants as refusal
 use Rattle.gh_driver.specs.declared.grammar.Sort.TheVariants as sort
 use Rattle.gh_driver.specs.Check.{linked_of, scoped}
 use Rattle.gh_driver.specs.Core.{program_of}
-use Rattle.gh_driver.specs.Grammar.{Form, Empty, Bind, Other, Parsed, Bad, Program, Item, bad_at, header_of, has_sort, form_of, bound_by, going_on, last_item, judged, body_of, parse_of, items_from, front_of, back_of, last_close}
+use Rattle.gh_driver.specs.Grammar.{Form, Empty, Bind, Other, Parsed, Program, Item, bad_at, header_of, has_sort, form_of, bound_by, going_on, last_item, judged, body_of, parse_of}
 use Rattle.gh_driver.specs.Lines.{Table}
 use Rattle.gh_driver.specs.Program.{Operand, Named, Text, Binding, has_name}
 use Rattle.gh_driver.specs.Scope.{Use, unknown_use, first_of, first_unknown, AreOthers, IsBound, IsGood, AreGood, IsScoped}
@@ -67,9 +67,10 @@ has_push (x ∷ bs) b s h e =
 
 apart_push : (bs : List Binding) (b : Binding) → Apart bs → has_name bs b.name ≡ false → Apart (bs ++ b ∷ [])
 apart_push [] b a h = (refl, tt)
-apart_push (x ∷ bs) b a h =
-    (has_push bs b x.name a.0 (same_test x.name b.name (or_left (bytes_eq x.name b.name) (has_name bs b.name) h)),
-    apart_push bs b a.1 (or_right (bytes_eq x.name b.name) (has_name bs b.name) h))
+apart_push (x ∷ bs) b a h = (
+  has_push bs b x.name a.0 (same_test x.name b.name (or_left (bytes_eq x.name b.name) (has_name bs b.name) h)),
+  apart_push bs b a.1 (or_right (bytes_eq x.name b.name) (has_name bs b.name) h),
+)
 
 -- one binding more before the others
 bound_later : (x : Binding) (bs : List Binding) (s : List ℕ) → x.name ≢ s → IsBound bs s → IsBound (x ∷ bs) s
@@ -225,9 +226,10 @@ accepted table bs good = ap (λ c. choice table bs c (first_unknown bs bs)) (has
 
 good_program : (table : Table) (bs : List Binding) → Apart bs → linked_of table bs ≡ checked.Program (program_of bs) → IsScoped bs
 unfolding linked_of
-good_program table bs a h =
-    (bound_of bs (codes "main") a (choice_main table bs (has_name bs (codes "main")) (first_unknown bs bs) h),
-    good_uses bs bs a (choice_uses table bs (has_name bs (codes "main")) (first_unknown bs bs) h))
+good_program table bs a h = (
+  bound_of bs (codes "main") a (choice_main table bs (has_name bs (codes "main")) (first_unknown bs bs) h),
+  good_uses bs bs a (choice_uses table bs (has_name bs (codes "main")) (first_unknown bs bs) h),
+)
 
 pub scope_is_exact : ScopeIsExact
 scope_is_exact table ts bs is = (accepted table bs, good_program table bs (apart_parsed ts bs is))

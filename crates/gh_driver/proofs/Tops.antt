@@ -1,5 +1,5 @@
 -- The answers of the top call, outcome by outcome.
-use Rattle.std.proofs.Common.{◌≡◌, ℕ, Bool, true, false, IsTrue, List, [], ◌∷◌, ◌++◌, take, Option, Some, ◌⊎◌, refl, sym, ap, ◌∙◌, inl, inr, subst, if◌then◌else◌}
+use Rattle.std.proofs.Common.{◌≡◌, ℕ, Bool, true, false, IsTrue, List, [], ◌∷◌, take, Option, Some, ◌⊎◌, refl, sym, ap, inl, inr, subst, if◌then◌else◌}
 use Rattle.gh_base.specs.declared.Refusal.{Refusal}
 use Rattle.gh_outside.specs.Outside.{Rose, Reads, Appends, AppendsFront}
 use Rattle.gh_driver.specs.declared.status.Status.{Status}
@@ -7,14 +7,10 @@ use Rattle.gh_driver.specs.declared.status.Status.TheVariants as status
 use Rattle.gh_driver.specs.Core.{has_ended, printed_by}
 use Rattle.gh_driver.specs.Lines.{Table, steps_line}
 use Rattle.gh_driver.specs.Check.{checked_of}
-use Rattle.gh_driver.specs.declared.check.Checked.{Checked}
 use Rattle.gh_driver.specs.declared.check.Checked.TheVariants as checked
 use Rattle.gh_driver.specs.declared.terms.Program.{Program}
-use Rattle.gh_driver.specs.declared.source.Source.{Source}
-use Rattle.gh_driver.specs.Top.{Answer, Answers, Outputs, ran, refused_by, checked_answer, answer_of, Gives, Unwritten, OutOfMemory, WriteCause, Shelves, IsQuiet, Runs, Asked, Told, IsComplete}
-use Rattle.gh_driver.specs.Words.{meaning_of, built_of}
+use Rattle.gh_driver.specs.Top.{Answer, Answers, Outputs, ran, refused_by, checked_answer, answer_of, Gives, WriteCause, Shelves, IsQuiet, Runs, Asked, Told, IsComplete}
 use Rattle.gh_driver.specs.declared.words.Words.{Words}
-use Rattle.gh_driver.specs.declared.words.Words.TheVariants as meaning
 use Rattle.gh_driver.proofs.Runs.{whole_front, appends_none}
 
 abbrev outcome : Program → ℕ → Bool → Answer

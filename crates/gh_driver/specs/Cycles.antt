@@ -2,7 +2,7 @@
 use Rattle.std.specs.Prelude.{◌≡◌, ℕ, suc, List, [], codes}
 use Rattle.gh_driver.specs.Keeps.{Running}
 use Rattle.gh_driver.specs.Program.{Binding}
-use Rattle.gh_driver.specs.Meaning.{Demand, Name, Point, acts}
+use Rattle.gh_driver.specs.Meaning.{Demand, Name, acts}
 use Rattle.gh_driver.specs.Core.{program_of, core}
 
 -- what is demanded after n steps from a name

@@ -1,5 +1,5 @@
 -- The grammar of programs that bind names to strings and to each other, and their items.
-use Rattle.std.specs.Prelude.{ℕ, ◌+◌, ◌==◌, ◌&&◌, Bool, true, false, if◌then◌else◌, List, [], ◌∷◌, ◌++◌, take, drop, Option, Some, None, codes}
+use Rattle.std.specs.Prelude.{ℕ, ◌+◌, ◌==◌, ◌&&◌, Bool, if◌then◌else◌, List, [], ◌∷◌, ◌++◌, take, drop, Option, Some, None, codes}
 use Rattle.std.specs.Str.{bytes_eq}
 use Rattle.gh_first_form.specs.Lexeme.{Piece, VarId, ConId, VarSym, Word, Mark, Str, Unread, Lexeme}
 use Rattle.gh_driver.specs.declared.grammar.Sort.{Sort}

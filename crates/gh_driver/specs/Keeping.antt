@@ -1,5 +1,5 @@
 -- The law that the core keeps the meaning.
-use Rattle.std.specs.Prelude.{ℕ, List}
+use Rattle.std.specs.Prelude.{List}
 use Rattle.gh_driver.specs.Keeps.{Keeps}
 use Rattle.gh_driver.specs.Program.{Binding}
 use Rattle.gh_driver.specs.Meaning.{meaning}

@@ -1,8 +1,6 @@
 -- Bindings read by a table of names.
-use Rattle.std.specs.Prelude.{ℕ, List, [], ◌∷◌, map, Option, Some, None}
-use Rattle.gh_base.specs.declared.NameId.{NameId}
+use Rattle.std.specs.Prelude.{List, [], ◌∷◌, map}
 use Rattle.gh_base.specs.Ids.{text_in}
-use Rattle.gh_base.specs.Table.{place_of}
 use Rattle.gh_lexer.specs.Seen.{IsPlaced}
 use Rattle.gh_driver.specs.declared.program.Operand.{Operand as Stored}
 use Rattle.gh_driver.specs.declared.program.Operand.TheVariants as stored

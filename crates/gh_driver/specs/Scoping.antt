@@ -1,5 +1,5 @@
 -- The law that a program is accepted exactly where its uses of names are good.
-use Rattle.std.specs.Prelude.{◌≡◌, ◌↔◌, ℕ, List}
+use Rattle.std.specs.Prelude.{◌≡◌, ◌↔◌, List}
 use Rattle.gh_first_form.specs.Lexeme.{Lexeme}
 use Rattle.gh_driver.specs.declared.check.Checked.TheVariants as checked
 use Rattle.gh_driver.specs.Check.{linked_of}

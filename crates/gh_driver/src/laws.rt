@@ -15,13 +15,11 @@ pub fn core_keeps_meaning()
 /// name, and no other does, and so it is with `main`.
 pub fn scope_is_exact()
     ensures { ScopeIsExact }
-{
-}
+{}
 
 /// Where `main` leads to a name that leads back to itself, the core goes on after any number of reductions, and nothing
 /// is printed.
 #[tactic(auto, using(crate::proofs::Cycles::cycles_run_for_ever))]
 pub fn cycles_run_for_ever()
     ensures { CyclesRunForEver }
-{
-}
+{}

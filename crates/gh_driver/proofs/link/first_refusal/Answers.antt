@@ -1,4 +1,4 @@
-use Rattle.std.proofs.Common.{◌≡◌, ◌<◌, ◌+◌, List, rules, length, drop, get_or, ap, sym, ◌∙◌, option_map}
+use Rattle.std.proofs.Common.{◌≡◌, ◌<◌, ◌+◌, rules, length, drop, get_or, ap, sym, ◌∙◌, option_map}
 use Rattle.gh_driver.specs.Check.{unknown_name}
 use Rattle.gh_driver.specs.Named.{operand_in, bindings_in}
 use Rattle.gh_driver.specs.Scope.{unknown_use, first_unknown}

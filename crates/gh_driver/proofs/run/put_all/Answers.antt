@@ -1,4 +1,4 @@
-use Rattle.std.proofs.Common.{◌≡◌, ◌++◌, List, ℕ, Option, arith, drop, take, subst}
+use Rattle.std.proofs.Common.{List, ℕ, arith, subst}
 use Rattle.std.specs.Str.{encode_utf8_all}
 use Rattle.gh_outside.specs.Outside.{Appends, AppendsFront}
 use Rattle.gh_driver.proofs.Runs.{put_more, put_less}

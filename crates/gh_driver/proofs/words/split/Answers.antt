@@ -1,4 +1,4 @@
-use Rattle.std.proofs.Common.{◌≡◌, rules, drop, sym, ap, ◌∙◌, ◌∷◌, [], ◌++◌, List, ℕ, ◌+◌, false, true}
+use Rattle.std.proofs.Common.{◌≡◌, drop, sym, ap, ◌∙◌, ◌∷◌, [], ◌++◌, List, ℕ, ◌+◌, false, true}
 use Rattle.gh_driver.specs.Words.{split_of, is_option}
 use Rattle.gh_driver.proofs.Fronts.{front_of}
 use Rattle.gh_driver.proofs.Splits.{after_split, is_last, is_steps, has_value, at_value, at_steps, at_steps_value, at_positional, same_state}

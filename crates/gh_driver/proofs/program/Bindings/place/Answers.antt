@@ -1,4 +1,4 @@
-use Rattle.std.proofs.Common.{◌≡◌, ap, sym, ◌∙◌, nat_eq, is_some, length, false}
+use Rattle.std.proofs.Common.{◌≡◌, ap, sym, ◌∙◌, nat_eq, is_some, false}
 use Rattle.std.specs.List.{list_any, position_or_len}
 use Rattle.gh_driver.proofs.Listed.{place_id, place_found, place_missed}
 use Rattle.gh_driver.proofs.program.Bindings.place.Goals as goal

@@ -1,6 +1,5 @@
-use Rattle.std.proofs.Common.{◌≡◌, List, ap, sym, ◌∙◌, nat_eq, true, false, ◌++◌, ◌∷◌, [], Some, None, if◌then◌else◌}
+use Rattle.std.proofs.Common.{◌≡◌, ap, sym, ◌∙◌, nat_eq, true, false, ◌++◌, ◌∷◌, [], Some, None, if◌then◌else◌}
 use Rattle.std.specs.List.{list_any}
-use Rattle.gh_driver.specs.declared.program.Binding.{Binding}
 use Rattle.gh_driver.proofs.Listed.{any_id, is_new, is_old}
 use Rattle.gh_driver.proofs.program.Bindings.with.Goals as goal
 
