@@ -1,12 +1,10 @@
 -- Tokens whose names are of the table, and their lexemes.
-use Rattle.std.proofs.Common.{◌≡◌, ℕ, zero, suc, ◌+◌, ◌<◌, ◌≤◌, List, [], ◌∷◌, ◌++◌, take, drop, length, get_or, map, Option, Some, None, refl, sym, ap, ◌∙◌, arith, subst, add-one, append_assoc, append-nil}
+use Rattle.std.proofs.Common.{◌≡◌, ℕ, zero, suc, ◌<◌, ◌≤◌, List, [], ◌∷◌, ◌++◌, take, drop, length, get_or, Some, None, refl, sym, ap, ◌∙◌, arith, subst}
 use Rattle.std.proofs.lemmas.List.{map-append}
 use Rattle.gh_lexer.specs.declared.Token.{Token}
 use Rattle.gh_first_form.specs.Lexeme.{Lexeme}
 use Rattle.gh_first_form.specs.Seen.{Table, lexeme_in, lexemes_in, IsKnown, AllKnown}
-use Rattle.gh_driver.specs.Grammar.{last_end, last_close, front_of, back_of, judged_all, items_from, body_of, bad_at}
-use Rattle.gh_driver.specs.declared.grammar.Parsed.{Parsed}
-use Rattle.gh_driver.specs.declared.grammar.Parsed.TheVariants.{Bad}
+use Rattle.gh_driver.specs.Grammar.{last_end, last_close, front_of, back_of, judged_all, items_from, body_of, bad_at, Bad}
 
 known_at : (table : Table) (ts : List Token) (i : ℕ) (d : Token) → AllKnown table ts → i < length ts → IsKnown table (get_or ts i d).kind
 known_at table [] i d k h = absurd (omega arith)
@@ -45,12 +43,12 @@ lexemes_drop table (suc n) (t ∷ ts) = lexemes_drop table n ts
 
 -- the body, cut at its last closing brace
 pub body_cut : (table : Table) (ts : List Token) (start n : ℕ) → last_close None 0 (lexemes_in table ts) ≡ Some n
-    → judged_all None (items_from start [] (lexemes_in table (take n ts))) (lexemes_in table (drop n ts)) ≡ body_of start (lexemes_in table ts)
+    → judged_all [] (items_from start [] (lexemes_in table (take n ts))) (lexemes_in table (drop n ts)) ≡ body_of start (lexemes_in table ts)
 unfolding body_of
 body_cut table ts start n e =
-    ap (λ l. judged_all None (items_from start [] l) (lexemes_in table (drop n ts))) (lexemes_take table n ts)
-    ∙ ap (λ l. judged_all None (items_from start [] (take n (lexemes_in table ts))) l) (lexemes_drop table n ts)
-    ∙ sym (ap (λ o. judged_all None (items_from start [] (front_of o (lexemes_in table ts))) (back_of o (lexemes_in table ts))) e)
+    ap (λ l. judged_all [] (items_from start [] l) (lexemes_in table (drop n ts))) (lexemes_take table n ts)
+    ∙ ap (λ l. judged_all [] (items_from start [] (take n (lexemes_in table ts))) l) (lexemes_drop table n ts)
+    ∙ sym (ap (λ o. judged_all [] (items_from start [] (front_of o (lexemes_in table ts))) (back_of o (lexemes_in table ts))) e)
 
 -- an item that goes on behind the body
 pub bad_joined : (table : Table) (start : ℕ) (first : Token) (tokens back : List Token) → 1 ≤ length tokens → first ≡ get_or tokens 0 first

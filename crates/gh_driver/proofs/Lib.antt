@@ -1,9 +1,14 @@
+pub mod Cycles
 pub mod Examples
 pub mod Fronts
 pub mod Keeping
 pub mod Known
+pub mod Links
+pub mod Listed
+pub mod Placed
 pub mod Plain
 pub mod Runs
+pub mod Scoping
 pub mod Splits
 pub mod Texts
 pub mod Tops

@@ -1,60 +1,76 @@
--- What a run prints, in one word.
-use Rattle.std.proofs.Common.{◌≡◌, ℕ, zero, suc, ◌+◌, ◌<◌, ◌≤◌, Bool, true, false, List, [], ◌∷◌, ◌++◌, length, take, Option, None, Some, refl, sym, ap, ◌∙◌, arith, append_assoc, append-nil, option_map, drop, get_or, min, ◌-◌, length-append, take-append-drop}
-use Rattle.std.proofs.lemmas.List.{take_more, take_all}
+-- What a run prints.
+use Rattle.std.proofs.Common.{◌≡◌, ℕ, zero, suc, ◌+◌, ◌<◌, ◌≤◌, true, false, List, [], ◌∷◌, ◌++◌, length, take, Option, None, Some, refl, sym, ap, ◌∙◌, arith, append_assoc, append-nil, option_map, drop, get_or, min, take-append-drop}
+use Rattle.std.proofs.lemmas.List.{take_more, take_all, get_or_past}
 use Rattle.std.proofs.lemmas.Str.{encodes-append}
 use Rattle.std.specs.Char.{encode_utf8}
 use Rattle.std.specs.Str.{encode_utf8_all}
 use Rattle.gh_outside.specs.Outside.{Appends, AppendsFront}
-use Rattle.gh_driver.specs.Core.{Term, Main, Text, Run, reduce, reduced, core_run, is_over, has_ended, printed_by}
+use Rattle.gh_driver.specs.Core.{reduced, core_run, is_over, has_ended, printed_by}
+use Rattle.gh_driver.specs.declared.terms.Term.TheVariants.{Global, Text}
+use Rattle.gh_driver.specs.declared.terms.Program.{Program}
 
 take_nothing : (n : ℕ) → take n (let x : List ℕ = [] in x) ≡ []
 take_nothing zero = refl
 take_nothing (suc n) = refl
 
-printed_from : (n : ℕ) (text cs out : List ℕ) → (reduced n text (Text cs) out).printed ≡ out ++ encode_utf8_all (take n cs)
-printed_from zero text cs out = sym (append-nil out)
-printed_from (suc n) text [] out = printed_from n text [] out ∙ ap (λ x. out ++ encode_utf8_all x) (take_nothing n)
-printed_from (suc n) text (c ∷ cs) out = printed_from n text cs (out ++ encode_utf8 c) ∙ append_assoc out (encode_utf8 c) (encode_utf8_all (take n cs))
+printed_from : (n : ℕ) (p : Program) (cs out : List ℕ) → (reduced n p (Text cs) out).printed ≡ out ++ encode_utf8_all (take n cs)
+printed_from zero p cs out = sym (append-nil out)
+printed_from (suc n) p [] out = printed_from n p [] out ∙ ap (λ x. out ++ encode_utf8_all x) (take_nothing n)
+printed_from (suc n) p (c ∷ cs) out = printed_from n p cs (out ++ encode_utf8 c) ∙ append_assoc out (encode_utf8 c) (encode_utf8_all (take n cs))
 
-over_from : (n : ℕ) (text cs out : List ℕ) → length cs ≤ n → is_over (reduced n text (Text cs) out).term ≡ true
-over_from zero text [] out h = refl
-over_from zero text (c ∷ cs) out h = absurd (omega arith)
-over_from (suc n) text [] out h = over_from n text [] out (omega arith)
-over_from (suc n) text (c ∷ cs) out h = over_from n text cs (out ++ encode_utf8 c) (omega arith)
+over_from : (n : ℕ) (p : Program) (cs out : List ℕ) → length cs ≤ n → is_over (reduced n p (Text cs) out).term ≡ true
+over_from zero p [] out h = refl
+over_from zero p (c ∷ cs) out h = absurd (omega arith)
+over_from (suc n) p [] out h = over_from n p [] out (omega arith)
+over_from (suc n) p (c ∷ cs) out h = over_from n p cs (out ++ encode_utf8 c) (omega arith)
 
-going_from : (n : ℕ) (text cs out : List ℕ) → n < length cs → is_over (reduced n text (Text cs) out).term ≡ false
-going_from zero text [] out h = absurd (omega arith)
-going_from zero text (c ∷ cs) out h = refl
-going_from (suc n) text [] out h = absurd (omega arith)
-going_from (suc n) text (c ∷ cs) out h = going_from n text cs (out ++ encode_utf8 c) (omega arith)
+going_from : (n : ℕ) (p : Program) (cs out : List ℕ) → n < length cs → is_over (reduced n p (Text cs) out).term ≡ false
+going_from zero p [] out h = absurd (omega arith)
+going_from zero p (c ∷ cs) out h = refl
+going_from (suc n) p [] out h = absurd (omega arith)
+going_from (suc n) p (c ∷ cs) out h = going_from n p cs (out ++ encode_utf8 c) (omega arith)
 
-pub never_ended : (text : List ℕ) (steps : ℕ) → steps ≡ 0 → has_ended text steps ≡ false
-unfolding has_ended core_run
-never_ended text zero e = refl
-never_ended text (suc n) e = absurd (omega arith)
+pub text_printed : (p : Program) (cs : List ℕ) (n : ℕ) → (reduced n p (Text cs) []).printed ≡ encode_utf8_all (take n cs)
+text_printed p cs n = printed_from n p cs []
 
-pub never_printed : (text : List ℕ) (steps : ℕ) → steps ≡ 0 → printed_by text steps ≡ []
-unfolding printed_by core_run
-never_printed text zero e = refl
-never_printed text (suc n) e = absurd (omega arith)
+pub text_whole : (p : Program) (cs : List ℕ) (n : ℕ) → length cs ≤ n → (reduced n p (Text cs) []).printed ≡ encode_utf8_all cs
+text_whole p cs n h = printed_from n p cs [] ∙ ap encode_utf8_all (take_all n cs h)
 
-pub printed_within : (text : List ℕ) (steps : ℕ) → 0 < steps → printed_by text steps ≡ encode_utf8_all (take (steps - 1) text)
-unfolding printed_by core_run
-printed_within text zero h = absurd (omega arith)
-printed_within text (suc m) h = let same : m ≡ suc m - 1 = omega arith in printed_from m text text [] ∙ ap (λ k. encode_utf8_all (take k text)) same
+pub text_over : (p : Program) (cs : List ℕ) (n : ℕ) → length cs ≤ n → is_over (reduced n p (Text cs) []).term ≡ true
+text_over p cs n h = over_from n p cs [] h
 
-pub printed_whole : (text : List ℕ) (steps : ℕ) → 0 < steps → length text ≤ steps - 1 → printed_by text steps ≡ encode_utf8_all text
-printed_whole text steps h le = printed_within text steps h ∙ ap encode_utf8_all (take_all (steps - 1) text le)
+pub text_going : (p : Program) (cs : List ℕ) (n : ℕ) → n < length cs → is_over (reduced n p (Text cs) []).term ≡ false
+text_going p cs n h = going_from n p cs [] h
 
-pub ended_within : (text : List ℕ) (steps : ℕ) → 0 < steps → length text ≤ steps - 1 → has_ended text steps ≡ true
-unfolding has_ended core_run
-ended_within text zero e h = absurd (omega arith)
-ended_within text (suc m) e h = over_from m text text [] (omega arith)
+-- a global without a definition stays
+pub stays : (n : ℕ) (p : Program) (at : ℕ) (out : List ℕ) → length p.definitions ≤ at → reduced n p (Global at) out ≡ record { term = Global at; printed = out }
+stays zero p at out h = refl
+stays (suc n) p at out h = ap (λ t. reduced n p t out) (get_or_past p.definitions at (Global at) h) ∙ stays n p at out h
 
-pub going_within : (text : List ℕ) (steps : ℕ) → 0 < steps → steps - 1 < length text → has_ended text steps ≡ false
-unfolding has_ended core_run
-going_within text zero e h = absurd (omega arith)
-going_within text (suc m) e h = going_from m text text [] (omega arith)
+pub started : (p : Program) (steps : ℕ) → core_run p steps ≡ reduced steps p (Global p.main) []
+unfolding core_run
+started p steps = refl
+
+-- a run that has come to a global by its last reduction, or to one without a definition
+module _ (p : Program) (steps n at : ℕ) (is : core_run p steps ≡ reduced n p (Global at) []) where
+  at_last : n ≡ 0 → core_run p steps ≡ record { term = Global at; printed = [] }
+  at_last e = is ∙ ap (λ m. reduced m p (Global at) []) e
+
+  pub last_going : n ≡ 0 → has_ended p steps ≡ false
+  unfolding has_ended
+  last_going e = ap (λ r. is_over r.term) (at_last e)
+
+  pub last_quiet : n ≡ 0 → printed_by p steps ≡ []
+  unfolding printed_by
+  last_quiet e = ap (λ r. r.printed) (at_last e)
+
+  pub stuck_going : length p.definitions ≤ at → has_ended p steps ≡ false
+  unfolding has_ended
+  stuck_going h = ap (λ r. is_over r.term) (is ∙ stays n p at [] h)
+
+  pub stuck_quiet : length p.definitions ≤ at → printed_by p steps ≡ []
+  unfolding printed_by
+  stuck_quiet h = ap (λ r. r.printed) (is ∙ stays n p at [] h)
 
 pub appends_then : (a b c : Option (List ℕ)) (x y : List ℕ) → Appends a x b → Appends b y c → Appends a (x ++ y) c
 appends_then None b c x y f g = g ∙ ap (option_map (λ z. z ++ y)) f

@@ -1,13 +1,21 @@
--- The grammar of programs that bind `main` to a string, and their items.
-use Rattle.std.specs.Prelude.{ℕ, ◌+◌, ◌==◌, ◌&&◌, Bool, true, false, if◌then◌else◌, List, [], ◌∷◌, ◌++◌, take, drop, Option, Some, None, codes}
+-- The grammar of programs that bind names to strings and to each other, and their items.
+use Rattle.std.specs.Prelude.{ℕ, ◌+◌, ◌==◌, ◌&&◌, Bool, if◌then◌else◌, List, [], ◌∷◌, ◌++◌, take, drop, Option, Some, None, codes}
 use Rattle.std.specs.Str.{bytes_eq}
 use Rattle.gh_first_form.specs.Lexeme.{Piece, VarId, ConId, VarSym, Word, Mark, Str, Unread, Lexeme}
 use Rattle.gh_driver.specs.declared.grammar.Sort.{Sort}
 use Rattle.gh_driver.specs.declared.grammar.Sort.TheVariants as sort
-use Rattle.gh_driver.specs.declared.grammar.Form.{Form}
-use Rattle.gh_driver.specs.declared.grammar.Form.TheVariants as form
-use Rattle.gh_driver.specs.declared.grammar.Parsed.{Parsed}
-use Rattle.gh_driver.specs.declared.grammar.Parsed.TheVariants as parsed
+use Rattle.gh_driver.specs.Program.{Operand, Named, Text, Binding, has_name}
+
+-- what an item of the body is
+pub data Form : Type 0 where
+  Empty : Form
+  Bind : (binding : Binding) → Form
+  Other : Form
+
+-- what the tokens of a file are: a bad item from a byte up to a byte, or a program
+pub data Parsed : Type 0 where
+  Bad : (from to : ℕ) → Parsed
+  Program : (bindings : List Binding) → Parsed
 
 -- what a token is to the grammar
 abbrev pub word_sort_of : List ℕ → Sort
@@ -19,12 +27,12 @@ mark_sort_of s =
     else (if bytes_eq s (codes ";") then sort.Semi else (if bytes_eq s (codes "=") then sort.Equals else sort.Other)))
 
 abbrev pub sort_of : Piece → Sort
-sort_of (VarId s) = if bytes_eq s (codes "main") then sort.MainName else sort.Other
+sort_of (VarId s) = sort.Other
 sort_of (ConId s) = if bytes_eq s (codes "Main") then sort.MainModule else sort.Other
 sort_of (VarSym s) = sort.Other
 sort_of (Word s) = word_sort_of s
 sort_of (Mark s) = mark_sort_of s
-sort_of (Str chars) = sort.Text
+sort_of (Str chars) = sort.Other
 sort_of Unread = sort.Other
 
 -- a sort as a number, so that two can be compared
@@ -32,13 +40,11 @@ abbrev pub code_of : Sort → ℕ
 code_of sort.Module = 0
 code_of sort.Where = 1
 code_of sort.MainModule = 2
-code_of sort.MainName = 3
-code_of sort.Open = 4
-code_of sort.Close = 5
-code_of sort.Semi = 6
-code_of sort.Equals = 7
-code_of sort.Text = 8
-code_of sort.Other = 9
+code_of sort.Open = 3
+code_of sort.Close = 4
+code_of sort.Semi = 5
+code_of sort.Equals = 6
+code_of sort.Other = 7
 
 abbrev pub has_sort : Lexeme → Sort → Bool
 has_sort t wanted = code_of (sort_of t.piece) == code_of wanted
@@ -85,58 +91,72 @@ last_end n (t ∷ ts) = last_end t.to ts
 
 -- a refused item has the bytes from its first token to its last; one without tokens is the empty place where it stands
 unfoldable pub bad_at : ℕ → List Lexeme → Parsed
-bad_at start [] = parsed.Bad start start
-bad_at start (t ∷ ts) = parsed.Bad t.from (last_end t.to ts)
+bad_at start [] = Bad start start
+bad_at start (t ∷ ts) = Bad t.from (last_end t.to ts)
 
-abbrev pub text_form : Piece → Form
-text_form (Str chars) = form.Main chars
-text_form (VarId s) = form.Other
-text_form (ConId s) = form.Other
-text_form (VarSym s) = form.Other
-text_form (Word s) = form.Other
-text_form (Mark s) = form.Other
-text_form Unread = form.Other
+-- a name is bound by a name of a variable
+abbrev pub name_of : Piece → Option (List ℕ)
+name_of (VarId s) = Some s
+name_of (ConId s) = None
+name_of (VarSym s) = None
+name_of (Word s) = None
+name_of (Mark s) = None
+name_of (Str chars) = None
+name_of Unread = None
 
--- an item is empty, or `main = string`
+-- an operand is a name of a variable, or a string
+abbrev pub operand_at : Piece → ℕ → ℕ → Option Operand
+operand_at (VarId s) from to = Some (Named s from to)
+operand_at (ConId s) from to = None
+operand_at (VarSym s) from to = None
+operand_at (Word s) from to = None
+operand_at (Mark s) from to = None
+operand_at (Str chars) from to = Some (Text chars)
+operand_at Unread from to = None
+
+abbrev pub operand_of : Lexeme → Option Operand
+operand_of t = operand_at t.piece t.from t.to
+
+abbrev pub bind_form : Option (List ℕ) → Option Operand → Form
+bind_form None operand = Other
+bind_form (Some name) None = Other
+bind_form (Some name) (Some operand) = Bind (record { name = name; operand = operand })
+
+-- an item is empty, or `name = operand`
 unfoldable pub form_of : List Lexeme → Form
-form_of [] = form.Empty
-form_of (m ∷ []) = form.Other
-form_of (m ∷ e ∷ []) = form.Other
-form_of (m ∷ e ∷ s ∷ []) = if has_sort m sort.MainName && has_sort e sort.Equals then text_form s.piece else form.Other
-form_of (m ∷ e ∷ s ∷ x ∷ rest) = form.Other
+form_of [] = Empty
+form_of (m ∷ []) = Other
+form_of (m ∷ e ∷ []) = Other
+form_of (m ∷ e ∷ s ∷ []) = if has_sort e sort.Equals then bind_form (name_of m.piece) (operand_of s) else Other
+form_of (m ∷ e ∷ s ∷ x ∷ rest) = Other
 
--- what `main` is after an item; none where the item is not of the form, or binds `main` again
-abbrev pub bound_by : Option (List ℕ) → Form → Option (Option (List ℕ))
-bound_by main form.Empty = Some main
-bound_by None (form.Main text) = Some (Some text)
-bound_by (Some known) (form.Main text) = None
-bound_by main form.Other = None
+-- the bindings after an item; none where the item is not of the form, or binds a name that is bound
+abbrev pub bound_by : List Binding → Form → Option (List Binding)
+bound_by bs Empty = Some bs
+bound_by bs (Bind b) = if has_name bs b.name then None else Some (bs ++ b ∷ [])
+bound_by bs Other = None
 
-abbrev pub going_on : Option (Option (List ℕ)) → Parsed → (Option (List ℕ) → Parsed) → Parsed
+abbrev pub going_on : Option (List Binding) → Parsed → (List Binding → Parsed) → Parsed
 going_on None bad go = bad
-going_on (Some main) bad go = go main
-
-abbrev pub program_of : Option (List ℕ) → Parsed
-program_of None = parsed.Empty
-program_of (Some text) = parsed.Main text
+going_on (Some bs) bad go = go bs
 
 -- the last item is followed by the closing brace and nothing else
-unfoldable pub last_item : Option (List ℕ) → Item → List Lexeme → Parsed
-last_item main i [] = bad_at i.start i.tokens
-last_item main i (close ∷ []) = going_on (bound_by main (form_of i.tokens)) (bad_at i.start i.tokens) program_of
-last_item main i (close ∷ more ∷ rest) = bad_at i.start (i.tokens ++ close ∷ more ∷ rest)
+unfoldable pub last_item : List Binding → Item → List Lexeme → Parsed
+last_item bs i [] = bad_at i.start i.tokens
+last_item bs i (close ∷ []) = going_on (bound_by bs (form_of i.tokens)) (bad_at i.start i.tokens) Program
+last_item bs i (close ∷ more ∷ rest) = bad_at i.start (i.tokens ++ close ∷ more ∷ rest)
 
 -- the first item that is not of its form is refused
-abbrev pub judged : Option (List ℕ) → List Item → Item → List Lexeme → Parsed
-judged main [] last back = last_item main last back
-judged main (i ∷ items) last back = going_on (bound_by main (form_of i.tokens)) (bad_at i.start i.tokens) (λ m. judged m items last back)
+abbrev pub judged : List Binding → List Item → Item → List Lexeme → Parsed
+judged bs [] last back = last_item bs last back
+judged bs (i ∷ items) last back = going_on (bound_by bs (form_of i.tokens)) (bad_at i.start i.tokens) (λ more. judged more items last back)
 
-abbrev pub judged_all : Option (List ℕ) → Items → List Lexeme → Parsed
-judged_all main items back = judged main items.ended items.last back
+abbrev pub judged_all : List Binding → Items → List Lexeme → Parsed
+judged_all bs items back = judged bs items.ended items.last back
 
 -- what follows the `{` of the body
 unfoldable pub body_of : ℕ → List Lexeme → Parsed
-body_of start ts = judged_all None (items_from start [] (front_of (last_close None 0 ts) ts)) (back_of (last_close None 0 ts) ts)
+body_of start ts = judged_all [] (items_from start [] (front_of (last_close None 0 ts) ts)) (back_of (last_close None 0 ts) ts)
 
 -- item 0 goes up to the first `{`
 abbrev pub header_of : List Lexeme → List Lexeme

@@ -1,10 +1,16 @@
+pub mod Bound
 pub mod Check
 pub mod Codes
 pub mod Core
+pub mod Cycles
 pub mod Grammar
 pub mod Keeping
 pub mod Keeps
 pub mod Lines
 pub mod Meaning
+pub mod Named
+pub mod Program
+pub mod Scope
+pub mod Scoping
 pub mod Top
 pub mod Words

@@ -1,9 +1,10 @@
 -- What the top call says of its words, the shelf and the outputs, by its status.
-use Rattle.std.specs.Prelude.{◌≡◌, ℕ, Bool, true, false, IsTrue, if◌then◌else◌, List, [], ◌∷◌, ◌++◌, take, Option, Some, None, ◌⊎◌}
+use Rattle.std.specs.Prelude.{◌≡◌, ℕ, Bool, IsTrue, if◌then◌else◌, List, [], ◌∷◌, take, Option, Some, None, ◌⊎◌}
 use Rattle.gh_base.specs.declared.Refusal.{Refusal}
 use Rattle.gh_outside.specs.Outside.{Rose, Reads, Appends, AppendsFront}
 use Rattle.gh_driver.specs.declared.check.Checked.{Checked}
 use Rattle.gh_driver.specs.declared.check.Checked.TheVariants as checked
+use Rattle.gh_driver.specs.declared.terms.Program.{Program}
 use Rattle.gh_driver.specs.declared.source.Source.{Source}
 use Rattle.gh_driver.specs.declared.status.Status.{Status}
 use Rattle.gh_driver.specs.declared.status.Status.TheVariants as status
@@ -51,18 +52,18 @@ abbrev pub refused_by : Table → List Source → Refusal → Answer
 refused_by table files r = record { status = status.Refused r; out = []; err = refusal_line_of table files r }
 
 -- the core run ends within n reductions, or goes on
-abbrev pub ran : List ℕ → ℕ → Answer
-ran text n =
-    if has_ended text n then record { status = status.Ended; out = printed_by text n; err = [] }
-    else record { status = status.OutOfSteps; out = printed_by text n; err = steps_line }
+abbrev pub ran : Program → ℕ → Answer
+ran p n =
+    if has_ended p n then record { status = status.Ended; out = printed_by p n; err = [] }
+    else record { status = status.OutOfSteps; out = printed_by p n; err = steps_line }
 
 abbrev pub checked_answer : Table → ℕ → List ℕ → List ℕ → Checked → Answer
 checked_answer table n file bytes (checked.Refused r) = refused_by table (record { name = file; bytes = bytes } ∷ []) r
-checked_answer table n file bytes (checked.Main text) = ran text n
+checked_answer table n file bytes (checked.Program p) = ran p n
 
 -- the answer to a run of a file with these bytes, for n reductions
 unfoldable pub answer_of : Table → ℕ → List ℕ → List ℕ → Answer
-answer_of table n file bytes = checked_answer table n file bytes (checked_of bytes)
+answer_of table n file bytes = checked_answer table n file bytes (checked_of table bytes)
 
 -- the answer is given: its status, its bytes and its line, and nothing else
 pub record Gives (a : Answer) (s : Status) (o : Outputs) : Type 0 where

@@ -1,29 +1,33 @@
 // From bytes to a program or a refusal.
 ghost use Rattle.std.specs.Prelude.{◌≡◌, IfOk};
-ghost use Rattle.gh_driver.specs.Check.{checked_of, span_at};
+ghost use Rattle.gh_driver.specs.Check.{checked_of, span_at, RefusalNamed};
 
 use crate::grammar::{Parsed, parse};
-use gh_base::{Fault, ListOf, Names, NoMemory, Refusal, Span};
+use crate::link::link;
+use crate::terms::Program;
+use gh_base::{Fault, Names, NoMemory, Refusal, Span};
 use gh_first_form::lex;
 use std::alloc::Global;
 
-/// A refusal, or the text of `main`.
+/// A refusal, or a program.
 #[derive(Drop)]
 pub enum Checked {
     Refused(Refusal),
-    Main(ListOf<char>),
+    Program(Program),
 }
 
-fn span(from: u32, to: u32) -> Span
+/// The bytes from `from` up to, and without, `to` of the one file.
+pub fn span(from: u32, to: u32) -> Span
     ensures { result ≡ span_at from to }
 {
     Span { file: 1, from, to }
 }
 
 /// What the bytes of a file are.
-#[tactic(auto, unfolding(crate::specs::Check::checked_of))]
+#[tactic(auto, unfolding(crate::specs::Check::checked_of), using(crate::proofs::Plain::long_named, crate::proofs::Plain::token_named, crate::proofs::Plain::parse_named))]
 pub fn check(alloc: Global, names: &mut Names, bytes: &[u8]) -> Result<Checked, NoMemory>
-    ensures { IfOk result (λ c. c ≡ checked_of bytes.now) }
+    ensures value { IfOk result (λ c. c ≡ checked_of names.new bytes.now) }
+    ensures named { IfOk result (λ c. RefusalNamed names.new c) }
 {
     if bytes.len() > 1_048_576 {
         return Ok(Checked::Refused(Refusal::FileTooLong { span: span(0, 0) }));
@@ -36,8 +40,7 @@ pub fn check(alloc: Global, names: &mut Names, bytes: &[u8]) -> Result<Checked, 
             Ok(Parsed::Bad(from, to)) => Ok(Checked::Refused(Refusal::NoParse {
                 span: span(from, to),
             })),
-            Ok(Parsed::Empty) => Ok(Checked::Refused(Refusal::NoMain)),
-            Ok(Parsed::Main(text)) => Ok(Checked::Main(text)),
+            Ok(Parsed::Program(bindings)) => Ok(link(alloc, names, &bindings)?),
         },
     }
 }

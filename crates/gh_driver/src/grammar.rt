@@ -1,11 +1,14 @@
-// Programs that bind `main` to a string.
+// Programs that bind names to strings and to each other.
 ghost use Rattle.std.specs.Prelude.{◌≡◌, ◌<◌, ◌≤◌, ◌++◌, ◌+◌, [], ℕ, List, length, take, drop, map, IfOk, IfSome, Some, None, option_map};
 ghost use Rattle.std.specs.Str.{bytes_eq};
 ghost use Rattle.gh_base.specs.Ids.{text_in};
 ghost use Rattle.gh_first_form.specs.Seen.{piece_in, lexeme_in, lexemes_in, IsKnown, AllKnown};
-ghost use Rattle.gh_first_form.specs.Lexeme.{VarId, ConId};
-ghost use Rattle.gh_driver.specs.Grammar.{sort_of, word_sort_of, mark_sort_of, has_sort, code_of, bad_at, last_end, last_close, form_of, bound_by, going_on, program_of, last_item, item, items_from, judged_all, body_of, header_of, parse_of};
+ghost use Rattle.gh_first_form.specs.Lexeme.{ConId};
+ghost use Rattle.gh_lexer.specs.Seen.{IsPlaced};
+ghost use Rattle.gh_driver.specs.Named.{operand_in, bindings_in, form_in, parsed_in, OperandPlaced, BindingsPlaced, FormPlaced, ParsedPlaced};
+ghost use Rattle.gh_driver.specs.Grammar.{sort_of, word_sort_of, mark_sort_of, has_sort, code_of, bad_at, last_end, last_close, form_of, name_of, operand_of, bind_form, bound_by, going_on, last_item, Bad, Program, item, items_from, judged_all, body_of, header_of, parse_of};
 
+use crate::program::{Binding, Bindings, Operand};
 use gh_base::{ListOf, NameId, Names, NoMemory};
 use gh_lexer::{NameClass, Token, TokenKind};
 use std::alloc::Global;
@@ -16,16 +19,15 @@ pub enum Sort {
     Module,
     Where,
     MainModule,
-    MainName,
     Open,
     Close,
     Semi,
     Equals,
-    Text,
     Other,
 }
 
-fn has_text(names: &Names, id: NameId, text: &[u8]) -> bool
+/// Whether an id has this text.
+pub fn has_text(names: &Names, id: NameId, text: &[u8]) -> bool
     requires { id.0 < length names.now }
     ensures { result ≡ bytes_eq (text_in names.now id) text.now }
 {
@@ -64,16 +66,6 @@ fn mark_sort(names: &Names, id: NameId) -> Sort
     Sort::Other
 }
 
-fn var_sort(names: &Names, id: NameId) -> Sort
-    requires { id.0 < length names.now }
-    ensures { result ≡ sort_of (VarId (text_in names.now id)) }
-{
-    if has_text(names, id, b"main") {
-        return Sort::MainName;
-    }
-    Sort::Other
-}
-
 fn con_sort(names: &Names, id: NameId) -> Sort
     requires { id.0 < length names.now }
     ensures { result ≡ sort_of (ConId (text_in names.now id)) }
@@ -89,14 +81,14 @@ fn kind_sort(names: &Names, token: &Token) -> Sort
     ensures { result ≡ sort_of (piece_in names.now token.now.kind) }
 {
     match &token.kind {
-        TokenKind::Name(NameClass::VarId, None, id) => var_sort(names, *id),
+        TokenKind::Name(NameClass::VarId, None, _) => Sort::Other,
         TokenKind::Name(NameClass::ConId, None, id) => con_sort(names, *id),
         TokenKind::Name(NameClass::VarSym, None, _) => Sort::Other,
         TokenKind::Name(NameClass::ConSym, None, _) => Sort::Other,
         TokenKind::Name(_, Some(_), _) => Sort::Other,
         TokenKind::Word(id) => word_sort(names, *id),
         TokenKind::Mark(id) => mark_sort(names, *id),
-        TokenKind::Str(_) => Sort::Text,
+        TokenKind::Str(_) => Sort::Other,
         TokenKind::Int(_) => Sort::Other,
         TokenKind::Char(_) => Sort::Other,
     }
@@ -106,16 +98,15 @@ fn kind_sort(names: &Names, token: &Token) -> Sort
 #[derive(Drop)]
 pub enum Form {
     Empty,
-    Main(ListOf<char>),
+    Bind(Binding),
     Other,
 }
 
-/// What the tokens of a file are: a bad item from a byte up to a byte, no binding, or `main` and its text.
+/// What the tokens of a file are: a bad item from a byte up to a byte, or a program.
 #[derive(Drop)]
 pub enum Parsed {
     Bad(u32, u32),
-    Empty,
-    Main(ListOf<char>),
+    Program(Bindings),
 }
 
 fn sort_code(sort: Sort) -> u8
@@ -125,13 +116,11 @@ fn sort_code(sort: Sort) -> u8
         Sort::Module => 0,
         Sort::Where => 1,
         Sort::MainModule => 2,
-        Sort::MainName => 3,
-        Sort::Open => 4,
-        Sort::Close => 5,
-        Sort::Semi => 6,
-        Sort::Equals => 7,
-        Sort::Text => 8,
-        Sort::Other => 9,
+        Sort::Open => 3,
+        Sort::Close => 4,
+        Sort::Semi => 5,
+        Sort::Equals => 6,
+        Sort::Other => 7,
     }
 }
 
@@ -156,7 +145,8 @@ fn end_from(names: &Names, end: u32, tokens: &[Token]) -> u32
 // From the first token to the last, or the empty place where the item stands.
 #[tactic(auto, unfolding(crate::specs::Grammar::bad_at))]
 fn bad(names: &Names, start: u32, tokens: &[Token]) -> Parsed
-    ensures { result ≡ bad_at start (lexemes_in names.now tokens.now) }
+    ensures value { parsed_in names.now result ≡ bad_at start (lexemes_in names.now tokens.now) }
+    ensures placed { ParsedPlaced names.now result }
 {
     match tokens {
         [] => Parsed::Bad(start, start),
@@ -164,52 +154,102 @@ fn bad(names: &Names, start: u32, tokens: &[Token]) -> Parsed
     }
 }
 
+// The name that a token is, where it is that of a variable.
+fn name(names: &Names, token: &Token) -> Option<NameId>
+    requires { IsKnown names.now token.now.kind }
+    ensures value { option_map (λ id. text_in names.now id) result ≡ name_of (piece_in names.now token.now.kind) }
+    ensures placed { IfSome result (λ id. IsPlaced names.now id) }
+{
+    let _ = names;
+    match &token.kind {
+        TokenKind::Name(NameClass::VarId, None, id) => Some(*id),
+        TokenKind::Name(NameClass::ConId, None, _) => None,
+        TokenKind::Name(NameClass::VarSym, None, _) => None,
+        TokenKind::Name(NameClass::ConSym, None, _) => None,
+        TokenKind::Name(_, Some(_), _) => None,
+        TokenKind::Word(_) => None,
+        TokenKind::Mark(_) => None,
+        TokenKind::Str(_) => None,
+        TokenKind::Int(_) => None,
+        TokenKind::Char(_) => None,
+    }
+}
+
+fn operand(alloc: Global, names: &Names, token: &Token) -> Result<Option<Operand>, NoMemory>
+    requires { IsKnown names.now token.now.kind }
+    ensures value { IfOk result (λ o. option_map (operand_in names.now) o ≡ operand_of (lexeme_in names.now token.now)) }
+    ensures placed { IfOk result (λ o. IfSome o (λ x. OperandPlaced names.now x)) }
+{
+    let _ = names;
+    match &token.kind {
+        TokenKind::Name(NameClass::VarId, None, id) => {
+            Ok(Some(Operand::Named(*id, token.span.from, token.span.to)))
+        }
+        TokenKind::Name(NameClass::ConId, None, _) => Ok(None),
+        TokenKind::Name(NameClass::VarSym, None, _) => Ok(None),
+        TokenKind::Name(NameClass::ConSym, None, _) => Ok(None),
+        TokenKind::Name(_, Some(_), _) => Ok(None),
+        TokenKind::Word(_) => Ok(None),
+        TokenKind::Mark(_) => Ok(None),
+        TokenKind::Str(chars) => Ok(Some(Operand::Text(ListOf::from_slice(
+            alloc,
+            chars.as_slice(),
+        )?))),
+        TokenKind::Int(_) => Ok(None),
+        TokenKind::Char(_) => Ok(None),
+    }
+}
+
+fn binding_form(names: &Names, name: Option<NameId>, operand: Option<Operand>) -> Form
+    requires name { IfSome name (λ id. IsPlaced names.now id) }
+    requires operand { IfSome operand (λ x. OperandPlaced names.now x) }
+    ensures value { form_in names.now result ≡ bind_form (option_map (λ id. text_in names.now id) name) (option_map (operand_in names.now) operand) }
+    ensures placed { FormPlaced names.now result }
+{
+    let _ = names;
+    match name {
+        None => Form::Other,
+        Some(name) => match operand {
+            None => Form::Other,
+            Some(operand) => Form::Bind(Binding { name, operand }),
+        },
+    }
+}
+
 #[tactic(auto, unfolding(crate::specs::Grammar::form_of))]
 fn read_form(alloc: Global, names: &Names, tokens: &[Token]) -> Result<Form, NoMemory>
     requires { AllKnown names.now tokens.now }
-    ensures { IfOk result (λ f. f ≡ form_of (lexemes_in names.now tokens.now)) }
+    ensures value { IfOk result (λ f. form_in names.now f ≡ form_of (lexemes_in names.now tokens.now)) }
+    ensures placed { IfOk result (λ f. FormPlaced names.now f) }
 {
     match tokens {
         [] => Ok(Form::Empty),
         [_a] => Ok(Form::Other),
         [_a, _b] => Ok(Form::Other),
-        [main, equals, text] => {
-            if !is_sort(names, main, Sort::MainName) {
-                return Ok(Form::Other);
-            }
+        [bound, equals, value] => {
             if !is_sort(names, equals, Sort::Equals) {
                 return Ok(Form::Other);
             }
-            match &text.kind {
-                TokenKind::Str(chars) => {
-                    Ok(Form::Main(ListOf::from_slice(alloc, chars.as_slice())?))
-                }
-                TokenKind::Name(NameClass::VarId, None, _) => Ok(Form::Other),
-                TokenKind::Name(NameClass::ConId, None, _) => Ok(Form::Other),
-                TokenKind::Name(NameClass::VarSym, None, _) => Ok(Form::Other),
-                TokenKind::Name(NameClass::ConSym, None, _) => Ok(Form::Other),
-                TokenKind::Name(_, Some(_), _) => Ok(Form::Other),
-                TokenKind::Word(_) => Ok(Form::Other),
-                TokenKind::Mark(_) => Ok(Form::Other),
-                TokenKind::Int(_) => Ok(Form::Other),
-                TokenKind::Char(_) => Ok(Form::Other),
-            }
+            let operand = operand(alloc, names, value)?;
+            Ok(binding_form(names, name(names, bound), operand))
         }
         [_a, _b, _c, _d, ..] => Ok(Form::Other),
     }
 }
 
-// What `main` is after an item, or none where the item is refused.
-fn bind(main: Option<ListOf<char>>, form: Form) -> Option<Option<ListOf<char>>>
-    ensures { result ≡ bound_by main form }
+// The bindings after an item, or none where the item is refused.
+#[tactic(auto, using(crate::proofs::Placed::has_placed, crate::proofs::Placed::placed_push, crate::proofs::Placed::bindings_push))]
+fn bind(names: &Names, bound: Bindings, form: Form) -> Result<Option<Bindings>, NoMemory>
+    requires bound { BindingsPlaced names.now bound }
+    requires form { FormPlaced names.now form }
+    ensures value { IfOk result (λ o. option_map (bindings_in names.now) o ≡ bound_by (bindings_in names.now bound) (form_in names.now form)) }
+    ensures placed { IfOk result (λ o. IfSome o (λ more. BindingsPlaced names.now more)) }
 {
+    let _ = names;
     match form {
-        Form::Empty => Some(main),
-        Form::Main(text) => match main {
-            None => Some(Some(text)),
-            Some(_) => None,
-        },
-        Form::Other => None,
+        Form::Empty => Ok(Some(bound)),
+        Form::Bind(binding) => Ok(bound.with(binding)?),
+        Form::Other => Ok(None),
     }
 }
 
@@ -259,7 +299,8 @@ fn header<'a>(names: &Names, tokens: &'a [Token]) -> &'a [Token]
 // A refused item that goes on behind the body's closing brace.
 #[tactic(auto, using(crate::proofs::Known::bad_joined))]
 fn bad_past(names: &Names, start: u32, tokens: &[Token], back: &[Token]) -> Parsed
-    ensures { result ≡ bad_at start (lexemes_in names.now tokens.now ++ lexemes_in names.now back.now) }
+    ensures value { parsed_in names.now result ≡ bad_at start (lexemes_in names.now tokens.now ++ lexemes_in names.now back.now) }
+    ensures placed { ParsedPlaced names.now result }
 {
     match tokens {
         [] => bad(names, start, back),
@@ -271,34 +312,27 @@ fn bad_past(names: &Names, start: u32, tokens: &[Token], back: &[Token]) -> Pars
     }
 }
 
-fn program(main: Option<ListOf<char>>) -> Parsed
-    ensures { result ≡ program_of main }
-{
-    match main {
-        None => Parsed::Empty,
-        Some(text) => Parsed::Main(text),
-    }
-}
-
 // The last item, with what stands from the last closing brace on.
 #[tactic(auto, unfolding(crate::specs::Grammar::last_item))]
 fn last(
     alloc: Global,
     names: &Names,
-    main: Option<ListOf<char>>,
+    bound: Bindings,
     start: u32,
     tokens: &[Token],
     back: &[Token],
 ) -> Result<Parsed, NoMemory>
-    requires { AllKnown names.now tokens.now }
-    ensures { IfOk result (λ p. p ≡ last_item main (item start (lexemes_in names.now tokens.now)) (lexemes_in names.now back.now)) }
+    requires known { AllKnown names.now tokens.now }
+    requires bound { BindingsPlaced names.now bound }
+    ensures value { IfOk result (λ p. parsed_in names.now p ≡ last_item (bindings_in names.now bound) (item start (lexemes_in names.now tokens.now)) (lexemes_in names.now back.now)) }
+    ensures placed { IfOk result (λ p. ParsedPlaced names.now p) }
 {
     match back {
         [] => Ok(bad(names, start, tokens)),
         [_close] => {
             let form = read_form(alloc, names, tokens)?;
-            match bind(main, form) {
-                Some(bound) => Ok(program(bound)),
+            match bind(names, bound, form)? {
+                Some(bound) => Ok(Parsed::Program(bound)),
                 None => Ok(bad(names, start, tokens)),
             }
         }
@@ -316,31 +350,33 @@ fn items(
     back: &[Token],
 ) -> Result<Parsed, NoMemory>
     requires { AllKnown names.now front.now }
-    ensures { IfOk result (λ p. p ≡ judged_all None (items_from start [] (lexemes_in names.now front.now)) (lexemes_in names.now back.now)) }
+    ensures value { IfOk result (λ p. parsed_in names.now p ≡ judged_all [] (items_from start [] (lexemes_in names.now front.now)) (lexemes_in names.now back.now)) }
+    ensures placed { IfOk result (λ p. ParsedPlaced names.now p) }
 {
-    let mut main = None;
+    let mut bound = Bindings::new(alloc);
     let mut start = start;
     let mut begin: usize = 0;
     for (at, token) in front.iter().enumerate() {
         if is_sort(names, token, Sort::Semi) {
             let tokens = from_place(up_to(front, at), begin);
             let form = read_form(alloc, names, tokens)?;
-            match bind(main, form) {
-                Some(bound) => main = bound,
+            match bind(names, bound, form)? {
+                Some(more) => bound = more,
                 None => return Ok(bad(names, start, tokens)),
             }
             start = token.span.to;
             begin = at + 1;
         }
     }
-    last(alloc, names, main, start, from_place(front, begin), back)
+    last(alloc, names, bound, start, from_place(front, begin), back)
 }
 
 // What follows the `{` of the body.
 #[tactic(auto, unfolding(crate::specs::Grammar::body_of), using(crate::proofs::Known::known_take, crate::proofs::Known::body_cut))]
 fn body(alloc: Global, names: &Names, start: u32, tokens: &[Token]) -> Result<Parsed, NoMemory>
     requires { AllKnown names.now tokens.now }
-    ensures { IfOk result (λ p. p ≡ body_of start (lexemes_in names.now tokens.now)) }
+    ensures value { IfOk result (λ p. parsed_in names.now p ≡ body_of start (lexemes_in names.now tokens.now)) }
+    ensures placed { IfOk result (λ p. ParsedPlaced names.now p) }
 {
     match closing(names, tokens) {
         Some(at) => {
@@ -356,7 +392,8 @@ fn body(alloc: Global, names: &Names, start: u32, tokens: &[Token]) -> Result<Pa
 
 fn bad_header(names: &Names, tokens: &[Token]) -> Parsed
     requires { AllKnown names.now tokens.now }
-    ensures { result ≡ bad_at 0 (header_of (lexemes_in names.now tokens.now)) }
+    ensures value { parsed_in names.now result ≡ bad_at 0 (header_of (lexemes_in names.now tokens.now)) }
+    ensures placed { ParsedPlaced names.now result }
 {
     bad(names, 0, header(names, tokens))
 }
@@ -365,7 +402,8 @@ fn bad_header(names: &Names, tokens: &[Token]) -> Parsed
 #[tactic(auto, unfolding(crate::specs::Grammar::parse_of))]
 pub fn parse(alloc: Global, names: &Names, tokens: &[Token]) -> Result<Parsed, NoMemory>
     requires { AllKnown names.now tokens.now }
-    ensures { IfOk result (λ p. p ≡ parse_of (lexemes_in names.now tokens.now)) }
+    ensures value { IfOk result (λ p. parsed_in names.now p ≡ parse_of (lexemes_in names.now tokens.now)) }
+    ensures placed { IfOk result (λ p. ParsedPlaced names.now p) }
 {
     match tokens {
         [] => Ok(bad(names, 0, tokens)),

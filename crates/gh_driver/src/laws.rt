@@ -1,5 +1,7 @@
 // Laws on the definitions, each the contract of a function that does nothing.
+ghost use Rattle.gh_driver.specs.Cycles.{CyclesRunForEver};
 ghost use Rattle.gh_driver.specs.Keeping.{CoreKeepsMeaning};
+ghost use Rattle.gh_driver.specs.Scoping.{ScopeIsExact};
 
 /// For every program of the first form, what n steps of the meaning of `main` print is a prefix of what 1,000 * (n + 1)
 /// reductions of its core print, an end within n steps is reached within these reductions, and for each number of
@@ -7,5 +9,17 @@ ghost use Rattle.gh_driver.specs.Keeping.{CoreKeepsMeaning};
 #[tactic(auto, using(crate::proofs::Keeping::core_keeps_meaning))]
 pub fn core_keeps_meaning()
     ensures { CoreKeepsMeaning }
-{
-}
+{}
+
+/// A program of which each item is of its form is accepted exactly where each use of a name is good: one binding has the
+/// name, and no other does, and so it is with `main`.
+pub fn scope_is_exact()
+    ensures { ScopeIsExact }
+{}
+
+/// Where `main` leads to a name that leads back to itself, the core goes on after any number of reductions, and nothing
+/// is printed.
+#[tactic(auto, using(crate::proofs::Cycles::cycles_run_for_ever))]
+pub fn cycles_run_for_ever()
+    ensures { CyclesRunForEver }
+{}

@@ -183,7 +183,11 @@ fn add_fields(out: &mut Bytes, names: &Names, refusal: &Refusal) -> Result<(), N
         Refusal::NotClosed { x, y, z, .. } => add_names(out, names, &[*x, *y, *z]),
         Refusal::BadCaseHead { .. } => Ok(()),
         Refusal::DoubleCase { .. } => Ok(()),
-        Refusal::MissingDependency { function, name, .. } => add_names(out, names, &[*function, *name]),
+        Refusal::MissingDependency { function, name, .. } => add_names(
+            out,
+            names,
+            &[*function, *name],
+        ),
         Refusal::NoCase { chain, .. } => add_pairs(out, names, chain.as_slice()),
         Refusal::BadExtends { .. } => Ok(()),
         Refusal::FileTooLong { .. } => Ok(()),

@@ -6,8 +6,8 @@ use std::alloc::Global;
 use std::test::Fail;
 
 const HELLO: &[u8] = b"module Main where { main = \"hi\" }";
-const USAGE: &[u8] =
-    b"usage: genhs check FILES, core FILES, run [--steps N] FILES, or sample N\n";
+
+const USAGE: &[u8] = b"usage: genhs check FILES, core FILES, run [--steps N] FILES, or sample N\n";
 
 #[derive(Drop)]
 struct Outcome {
@@ -57,12 +57,24 @@ fn call(
 }
 
 fn run_hello(alloc: Global, texts: &[&[u8]]) -> Result<Outcome, Fail> {
-    call(alloc, texts, b"a.hs", ListOf::from_slice(alloc, HELLO)?, &[])
+    call(
+        alloc,
+        texts,
+        b"a.hs",
+        ListOf::from_slice(alloc, HELLO)?,
+        &[],
+    )
 }
 
 fn run_file(alloc: Global, text: &[u8]) -> Result<Outcome, Fail> {
     let words: [&[u8]; 2] = [b"run", b"a.hs"];
-    call(alloc, &words, b"a.hs", ListOf::from_slice(alloc, text)?, &[])
+    call(
+        alloc,
+        &words,
+        b"a.hs",
+        ListOf::from_slice(alloc, text)?,
+        &[],
+    )
 }
 
 // The first program with spaces behind it, up to so many bytes.
@@ -109,21 +121,66 @@ fn each_budget_prints_its_prefix(rt: HostRuntime) -> Result<(), Fail> {
 
 #[test]
 fn refusals_have_their_lines(rt: HostRuntime) -> Result<(), Fail> {
-    let files: [(&[u8], &[u8]); 14] = [
+    let files: [(&[u8], &[u8]); 20] = [
         (b"module Main where { }", b"genhs: 38 NoMain\n"),
         (b"module Main where { ; ; }", b"genhs: 38 NoMain\n"),
         (b"", b"a.hs:1:1: 9 NoParse\n"),
         (b"module Main where", b"a.hs:1:1: 9 NoParse\n"),
-        (b"module Other where { main = \"a\" }", b"a.hs:1:1: 9 NoParse\n"),
+        (
+            b"module Other where { main = \"a\" }",
+            b"a.hs:1:1: 9 NoParse\n",
+        ),
         (b"module Main where { x }", b"a.hs:1:21: 9 NoParse\n"),
-        (b"module Main where {\n  ;\n  main = \"a\";\n\tmain = \"b\" }", b"a.hs:4:9: 9 NoParse\n"),
-        (b"module Main where { main = \"a\" } x", b"a.hs:1:21: 9 NoParse\n"),
-        (b"module Main where { main = \"a\"", b"a.hs:1:21: 9 NoParse\n"),
-        (b"module Main where { main = \"a\" } ; }", b"a.hs:1:21: 9 NoParse\n"),
+        (
+            b"module Main where {\n  ;\n  main = \"a\";\n\tmain = \"b\" }",
+            b"a.hs:4:9: 9 NoParse\n",
+        ),
+        (
+            b"module Main where { main = \"a\" } x",
+            b"a.hs:1:21: 9 NoParse\n",
+        ),
+        (
+            b"module Main where { main = \"a\"",
+            b"a.hs:1:21: 9 NoParse\n",
+        ),
+        (
+            b"module Main where { main = \"a\" } ; }",
+            b"a.hs:1:21: 9 NoParse\n",
+        ),
         (b"module Main where { } }", b"a.hs:1:21: 9 NoParse\n"),
         (b"module Main where {", b"a.hs:1:20: 9 NoParse\n"),
-        (b"module Main where { main = \"a }", b"a.hs:1:28: 2 NoToken\n"),
-        (b"module Main where {\r\n main = ? }", b"a.hs:2:9: 2 NoToken\n"),
+        (
+            b"module Main where { main = \"a }",
+            b"a.hs:1:28: 2 NoToken\n",
+        ),
+        (
+            b"module Main where {\r\n main = ? }",
+            b"a.hs:2:9: 2 NoToken\n",
+        ),
+        (
+            b"module Main where { main = x }",
+            b"a.hs:1:28: 16 UnknownName x\n",
+        ),
+        (
+            b"module Main where { a = y; main = x' }",
+            b"a.hs:1:25: 16 UnknownName y\n",
+        ),
+        (
+            b"module Main where { main = main; a = \"\";\n\n b = Main }",
+            b"a.hs:3:2: 9 NoParse\n",
+        ),
+        (
+            b"module Main where { a = \"\"; b = a; c = mai }",
+            b"genhs: 38 NoMain\n",
+        ),
+        (
+            b"module Main where { a = x; a = \"s\" }",
+            b"a.hs:1:28: 9 NoParse\n",
+        ),
+        (
+            b"module Main where { main = x; x = main; y = \"\"; x = y; main = z }",
+            b"a.hs:1:49: 9 NoParse\n",
+        ),
     ];
     for (file, line) in files {
         let call = run_file(rt.alloc(), file)?;
@@ -131,6 +188,103 @@ fn refusals_have_their_lines(rt: HostRuntime) -> Result<(), Fail> {
         assert_eq!(rt; call.code, 1);
         assert_eq!(rt; call.out.bytes(), b"".as_slice());
     }
+    Ok(())
+}
+
+#[test]
+fn each_name_takes_a_reduction(rt: HostRuntime) -> Result<(), Fail> {
+    let file: &[u8] = b"module Main where { a = b; main = a; c = \"hi\"; b = c }";
+    let budgets: [(&[u8], &[u8], u8); 6] = [
+        (b"0", b"", 3),
+        (b"1", b"", 3),
+        (b"4", b"", 3),
+        (b"5", b"h", 3),
+        (b"6", b"hi", 0),
+        (b"7", b"hi", 0),
+    ];
+    for (steps, out, code) in budgets {
+        let words: [&[u8]; 4] = [b"run", b"--steps", steps, b"a.hs"];
+        let bytes = ListOf::from_slice(rt.alloc(), file)?;
+        let call = call(rt.alloc(), &words, b"a.hs", bytes, &[])?;
+        assert_eq!(rt; call.code, code);
+        assert_eq!(rt; call.out.bytes(), out);
+    }
+    Ok(())
+}
+
+#[test]
+fn a_cycle_runs_for_ever(rt: HostRuntime) -> Result<(), Fail> {
+    let files: [&[u8]; 3] = [
+        b"module Main where { main = main }",
+        b"module Main where { a = main; main = a }",
+        b"module Main where { b = a; a = b; c = \"x\"; main = b }",
+    ];
+    let budgets: [&[u8]; 5] = [b"0", b"1", b"2", b"3", b"2000000"];
+    for file in files {
+        for steps in budgets {
+            let words: [&[u8]; 4] = [b"run", b"--steps", steps, b"a.hs"];
+            let bytes = ListOf::from_slice(rt.alloc(), file)?;
+            let call = call(rt.alloc(), &words, b"a.hs", bytes, &[])?;
+            assert_eq!(rt; call.code, 3);
+            assert_eq!(rt; call.out.bytes(), b"".as_slice());
+            assert_eq!(rt; call.err.bytes(), b"genhs: out of steps\n".as_slice());
+        }
+    }
+    Ok(())
+}
+
+#[test]
+fn the_order_of_bindings_is_free(rt: HostRuntime) -> Result<(), Fail> {
+    let files: [&[u8]; 6] = [
+        b"module Main where { main = a; a = b'1; b'1 = \"ok\" }",
+        b"module Main where { main = a; b'1 = \"ok\"; a = b'1 }",
+        b"module Main where { a = b'1; main = a; b'1 = \"ok\" }",
+        b"module Main where { a = b'1; b'1 = \"ok\"; main = a }",
+        b"module Main where { b'1 = \"ok\"; main = a; a = b'1 }",
+        b"module Main where { b'1 = \"ok\"; a = b'1; main = a }",
+    ];
+    for file in files {
+        let call = run_file(rt.alloc(), file)?;
+        assert_eq!(rt; call.code, 0);
+        assert_eq!(rt; call.out.bytes(), b"ok".as_slice());
+    }
+    Ok(())
+}
+
+#[test]
+fn a_cycle_that_is_not_used_does_no_harm(rt: HostRuntime) -> Result<(), Fail> {
+    let call = run_file(
+        rt.alloc(),
+        b"module Main where { a = a; main = \"x\"; b = a }",
+    )?;
+    assert_eq!(rt; call.code, 0);
+    assert_eq!(rt; call.out.bytes(), b"x".as_slice());
+    Ok(())
+}
+
+// A name of five digits behind a letter.
+fn push_name(bytes: &mut Bytes, number: u32) -> Result<(), Fail> {
+    bytes.push(b'n')?;
+    for power in [10_000, 1000, 100, 10, 1] {
+        bytes.push(b'0' + (number / power % 10) as u8)?;
+    }
+    Ok(())
+}
+
+#[test]
+fn ten_thousand_bindings_are_linked(rt: HostRuntime) -> Result<(), Fail> {
+    let mut file = ListOf::from_slice(rt.alloc(), b"module Main where { main = n00000")?;
+    for number in 0..9998 {
+        file.extend_from_slice(b"; ")?;
+        push_name(&mut file, number)?;
+        file.extend_from_slice(b" = ")?;
+        push_name(&mut file, number + 1)?;
+    }
+    file.extend_from_slice(b"; n09998 = \"far\" }")?;
+    let words: [&[u8]; 2] = [b"run", b"a.hs"];
+    let call = call(rt.alloc(), &words, b"a.hs", file, &[])?;
+    assert_eq!(rt; call.code, 0);
+    assert_eq!(rt; call.out.bytes(), b"far".as_slice());
     Ok(())
 }
 

@@ -11,13 +11,13 @@ use crate::lines::{read_line, refusal_line};
 use crate::run::{RunFault, run_main};
 use crate::source::Source;
 use crate::status::Status;
+use crate::terms::Program;
 use crate::words::{Words, WordsFault, read_words};
 use gh_base::{Bytes, ListOf, Names, NoMemory, Refusal};
 use gh_outside::{Out, OutFault, Shelf, ShelfFault};
 use std::alloc::Global;
 
-const USAGE: &[u8] =
-    b"usage: genhs check FILES, core FILES, run [--steps N] FILES, or sample N\n";
+const USAGE: &[u8] = b"usage: genhs check FILES, core FILES, run [--steps N] FILES, or sample N\n";
 
 // The lines of a failed write and of want of memory are tried once.
 fn try_line<E: Out>(err: &mut E, text: &[u8]) {
@@ -33,14 +33,14 @@ fn out_of_memory<E: Out>(err: &mut E) -> Status
 
 // Runs a program, and says how the run has ended.
 #[tactic(auto, unfolding(crate::specs::Lines::steps_line), using(crate::proofs::Tops::ran_going, crate::proofs::Tops::ran_unsaid, crate::proofs::Tops::ran_unwritten, crate::proofs::Tops::ran_out_of_memory))]
-fn run_text<O: Out, E: Out>(
+fn run_program<O: Out, E: Out>(
     alloc: Global,
-    text: &[char],
+    program: &Program,
     steps: u32,
     out: &mut O,
     err: &mut E,
 ) -> Status
-    ensures { Answers (ran text.now steps) result (record {
+    ensures { Answers (ran program.now steps) result (record {
       out_old = O.written out.old;
       out_new = O.written out.new;
       out_faults_old = O.faults out.old;
@@ -51,7 +51,7 @@ fn run_text<O: Out, E: Out>(
       err_faults_new = E.faults err.new;
     }) }
 {
-    match run_main(alloc, out, text, steps) {
+    match run_main(alloc, out, program, steps) {
         Ok(true) => Status::Ended,
         Ok(false) => match err.put(b"genhs: out of steps\n") {
             Ok(()) => Status::OutOfSteps,
@@ -108,7 +108,7 @@ fn one_source(alloc: Global, file: &[u8], bytes: Bytes) -> Result<ListOf<Source>
 }
 
 // Answers a run of a file that was read.
-#[tactic(auto, unfolding(crate::specs::Top::answer_of), using(crate::proofs::Plain::refusal_named, crate::proofs::Plain::refusal_placed, crate::proofs::Tops::answer_refused, crate::proofs::Tops::answer_ran))]
+#[tactic(auto, unfolding(crate::specs::Top::answer_of), using(crate::proofs::Plain::refusal_placed, crate::proofs::Tops::answer_refused, crate::proofs::Tops::answer_ran))]
 fn run_bytes<O: Out, E: Out>(
     alloc: Global,
     names: &mut Names,
@@ -140,7 +140,7 @@ fn run_bytes<O: Out, E: Out>(
 {
     match check(alloc, names, bytes.as_slice()) {
         Err(_) => out_of_memory(err),
-        Ok(Checked::Main(text)) => run_text(alloc, text.as_slice(), steps, out, err),
+        Ok(Checked::Program(program)) => run_program(alloc, &program, steps, out, err),
         Ok(Checked::Refused(refusal)) => {
             let Ok(files) = one_source(alloc, file, bytes) else {
                 return out_of_memory(err);

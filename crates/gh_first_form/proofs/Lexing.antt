@@ -6,6 +6,7 @@ use Rattle.std.proofs.Math.ListN.{get_or-append}
 use Rattle.gh_base.specs.declared.names.NameId.{NameId}
 use Rattle.gh_base.specs.Ids.{text_in}
 use Rattle.gh_base.specs.Table.{IsGrown}
+use Rattle.gh_lexer.proofs.Tables.{placed_grown}
 use Rattle.gh_first_form.specs.Lexeme.{Lexeme, Word, Mark}
 use Rattle.gh_first_form.specs.Reading.{is_blank, scan_at, piece_of, read_from, then_on, onto, after, reading}
 use Rattle.gh_first_form.specs.Seen.{Table, piece_in, named, lexeme_in, lexemes_in, IsKnown, AllKnown}
@@ -44,7 +45,7 @@ kept_piece : (old new : Table) → IsGrown old new → (k : TokenKind) → IsKno
 kept_piece old new g (kind.Name c (Some q) id) h = refl
 kept_piece old new g (kind.Int n) h = refl
 kept_piece old new g (kind.Char c) h = refl
-kept_piece old new g (kind.Name c None id) h = ap (λ t. named c (text_in t id)) g.is ∙ ap (named c) (kept_text old g.more id h)
+kept_piece old new g (kind.Name c None id) h = ap (λ t. named c (text_in t id)) g.is ∙ ap (named c) (kept_text old g.more id h.known)
 kept_piece old new g (kind.Word id) h = ap (λ t. Word (text_in t id)) g.is ∙ ap Word (kept_text old g.more id h)
 kept_piece old new g (kind.Mark id) h = ap (λ t. Mark (text_in t id)) g.is ∙ ap Mark (kept_text old g.more id h)
 kept_piece old new g (kind.Str chars) h = refl
@@ -53,7 +54,7 @@ longer : (old new : Table) → IsGrown old new → (n : ℕ) → n < length old 
 longer old new g n h = omega (arith, ap length g.is, length-append old g.more)
 
 kept_known : (old new : Table) → IsGrown old new → (k : TokenKind) → IsKnown old k → IsKnown new k
-kept_known old new g (kind.Name c None id) h = longer old new g id.0 h
+kept_known old new g (kind.Name c None id) h = placed_grown old new g id h
 kept_known old new g (kind.Name c (Some q) id) h = (longer old new g q.0 h.0, longer old new g id.0 h.1)
 kept_known old new g (kind.Int n) h = tt
 kept_known old new g (kind.Char c) h = tt

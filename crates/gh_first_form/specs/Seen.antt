@@ -6,6 +6,7 @@ use Rattle.gh_lexer.specs.declared.TokenKind.{TokenKind}
 use Rattle.gh_lexer.specs.declared.TokenKind.TheVariants as kind
 use Rattle.gh_lexer.specs.declared.Token.{Token}
 use Rattle.gh_base.specs.Ids.{text_in}
+use Rattle.gh_lexer.specs.Seen.{IsPlaced}
 use Rattle.gh_first_form.specs.Lexeme.{Piece, VarId, ConId, VarSym, Word, Mark, Str, Unread, Lexeme}
 
 abbrev pub Table : Type 0
@@ -32,9 +33,9 @@ lexeme_in table t = record { piece = piece_in table t.kind; from = t.span.from; 
 abbrev pub lexemes_in : Table → List Token → List Lexeme
 lexemes_in table ts = map (lexeme_in table) ts
 
--- the ids are of the table
+-- the ids are of the table, and that of a name is the one of its text
 abbrev pub IsKnown : Table → TokenKind → Type 0
-IsKnown table (kind.Name c None id) = id.0 < length table
+IsKnown table (kind.Name c None id) = IsPlaced table id
 IsKnown table (kind.Name c (Some q) id) = (q.0 < length table) × (id.0 < length table)
 IsKnown table (kind.Word id) = id.0 < length table
 IsKnown table (kind.Mark id) = id.0 < length table

@@ -1,4 +1,4 @@
-use Rattle.std.proofs.Common.{◌≡◌, ◌<◌, ◌≤◌, drop, length, IfSome, None}
+use Rattle.std.proofs.Common.{◌≡◌, ◌<◌, drop, IfSome, None}
 use Rattle.gh_first_form.specs.Seen.{lexemes_in}
 use Rattle.gh_driver.specs.Grammar.{last_close}
 use Rattle.gh_driver.proofs.grammar.closing.Given as goal

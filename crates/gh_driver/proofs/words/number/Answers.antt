@@ -1,4 +1,4 @@
-use Rattle.std.proofs.Common.{ℕ, zero, suc, ◌<◌, ◌≤◌, ◌^◌, length, arith}
+use Rattle.std.proofs.Common.{ℕ, zero, suc, ◌<◌, ◌≤◌, ◌^◌, arith}
 use Rattle.gh_driver.proofs.words.number.Goals as goal
 
 ten_below : (i : ℕ) → i < 7 → 10 ^ i ≤ 1000000

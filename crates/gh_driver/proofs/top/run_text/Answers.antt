@@ -1,6 +1,0 @@
-use Rattle.std.proofs.Common.{rules}
-use Rattle.gh_driver.proofs.Tops.{ran_unsaid}
-use Rattle.gh_driver.proofs.top.run_text.Goals as goal
-
-pub returns-in-Err-Failed-put : goal.returns-in-Err-Failed-put
-returns-in-Err-Failed-put g c = ran_unsaid c.args.text.now c.args.steps _ (search rules) (search rules) (search rules)
