@@ -12,3 +12,4 @@ pub mod Scoping
 pub mod Splits
 pub mod Texts
 pub mod Tops
+pub mod WordExamples

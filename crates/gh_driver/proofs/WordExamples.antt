@@ -1,0 +1,73 @@
+-- Small cases of the words and of the lines on err, worked out by hand.
+use Rattle.std.proofs.Common.{◌≡◌, ℕ, true, false, List, [], ◌∷◌, ◌++◌, Option, Some, None, refl}
+use Rattle.std.specs.Fmt.{digits}
+use Rattle.std.specs.Prelude.{codes}
+use Rattle.gh_base.specs.declared.Refusal.TheVariants as refusal
+use Rattle.gh_base.specs.declared.NameId.{NameId}
+use Rattle.gh_base.specs.declared.Span.{Span}
+use Rattle.gh_driver.specs.declared.words.Words.{Words}
+use Rattle.gh_driver.specs.declared.words.Words.TheVariants as meaning
+use Rattle.gh_driver.specs.declared.source.Source.{Source}
+use Rattle.gh_driver.specs.Words.{split_of, meaning_of_split, steps_of, sample_of}
+use Rattle.gh_driver.specs.Lines.{refusal_line_of, variant_of, fields_of, usage_line}
+
+-- words that are text have the meaning that their options and positionals have
+meaning_of_words : List (List ℕ) → Option Words
+meaning_of_words words = meaning_of_split (split_of false words)
+
+run_by_default : meaning_of_words (codes "run" ∷ codes "a.hs" ∷ []) ≡ Some (meaning.Run 200000 (codes "a.hs" ∷ []))
+unfolding meaning_of_words
+run_by_default = refl
+
+option_first : meaning_of_words (codes "--steps" ∷ codes "5" ∷ codes "run" ∷ codes "a.hs" ∷ []) ≡ Some (meaning.Run 5 (codes "a.hs" ∷ []))
+unfolding meaning_of_words
+option_first = refl
+
+option_with_value : meaning_of_words (codes "run" ∷ codes "--steps=0" ∷ codes "--" ∷ codes "-a.hs" ∷ []) ≡ Some (meaning.Run 0 (codes "-a.hs" ∷ []))
+unfolding meaning_of_words
+option_with_value = refl
+
+option_twice : meaning_of_words (codes "run" ∷ codes "--steps" ∷ codes "1" ∷ codes "--steps" ∷ codes "1" ∷ codes "a.hs" ∷ []) ≡ None
+unfolding meaning_of_words
+option_twice = refl
+
+option_of_another_mode : meaning_of_words (codes "check" ∷ codes "--steps" ∷ codes "5" ∷ codes "a.hs" ∷ []) ≡ None
+unfolding meaning_of_words
+option_of_another_mode = refl
+
+unknown_option : meaning_of_words (codes "--help" ∷ []) ≡ None
+unfolding meaning_of_words
+unknown_option = refl
+
+greatest_budget : steps_of (codes "2000000") ≡ Some 2000000
+greatest_budget = refl
+
+budget_past_the_greatest : steps_of (codes "2000001") ≡ None
+budget_past_the_greatest = refl
+
+eight_digits : steps_of (codes "00000001") ≡ None
+eight_digits = refl
+
+sample_zero : sample_of (codes "0") ≡ None
+sample_zero = refl
+
+-- line 2, column 4: a line feed and three characters stand before
+line_of_a_refusal : refusal_line_of [] (record { name = codes "a.hs"; bytes = codes "ab" ++ (10 ∷ codes "   x") } ∷ []) (refusal.NoToken (record { file = 1; from = 6; to = 7 }))
+    ≡ codes "a.hs:2:4: 2 NoToken" ++ 10 ∷ []
+unfolding refusal_line_of variant_of fields_of digits
+line_of_a_refusal = refl
+
+-- a tab goes on to column 9
+line_behind_a_tab : refusal_line_of (codes "x" ∷ []) (record { name = codes "a.hs"; bytes = 9 ∷ codes "x" } ∷ [])
+    (refusal.UnknownName (record { file = 1; from = 1; to = 2 }) (record { 0 = 0 })) ≡ codes "a.hs:1:9: 16 UnknownName x" ++ 10 ∷ []
+unfolding refusal_line_of variant_of fields_of digits
+line_behind_a_tab = refl
+
+line_of_a_long_file : refusal_line_of [] (record { name = codes "a.hs"; bytes = [] } ∷ []) (refusal.FileTooLong (record { file = 1; from = 0; to = 0 }))
+    ≡ codes "a.hs: 36 FileTooLong" ++ 10 ∷ []
+unfolding refusal_line_of variant_of fields_of digits
+line_of_a_long_file = refl
+
+line_without_main : refusal_line_of [] [] refusal.NoMain ≡ codes "genhs: 38 NoMain" ++ 10 ∷ []
+unfolding refusal_line_of variant_of fields_of digits
+line_without_main = refl
