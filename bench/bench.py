@@ -67,3 +67,12 @@ def program(size):
 
 table("a run that prints a string", "bytes", [2 ** k for k in range(16, 20)], program,
       lambda path, size: [GENHS, "run", "--steps", "2000000", path])
+
+
+def chain(size):
+    items = ["main = b0"] + [f"b{i} = b{i + 1}" for i in range(size - 2)] + [f'b{size - 2} = "x"']
+    return ("module Main where { " + "; ".join(items) + " }").encode()
+
+
+table("a run through a chain of bindings", "bindings", [5000 * 2 ** k for k in range(4)], chain,
+      lambda path, size: [GENHS, "run", "--steps", "2000000", path])
