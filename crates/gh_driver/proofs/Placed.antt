@@ -77,4 +77,4 @@ place_placed table (b ∷ bs) name p q =
 
 -- the id of a text that has one
 pub same_id : (table : Table) (name : NameId) → IsPlaced table name → id_of table (text_in table name) ≡ name
-same_id table name p = ap id_at p.place
+same_id table name p = ap (id_at (length table)) p.place

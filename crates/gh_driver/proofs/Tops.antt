@@ -9,7 +9,7 @@ use Rattle.gh_driver.specs.Lines.{Table, steps_line}
 use Rattle.gh_driver.specs.Check.{checked_of}
 use Rattle.gh_driver.specs.declared.check.Checked.TheVariants as checked
 use Rattle.gh_driver.specs.declared.terms.Program.{Program}
-use Rattle.gh_driver.specs.Top.{Answer, Answers, Outputs, ran, refused_by, checked_answer, answer_of, Gives, WriteCause, Shelves, IsQuiet, Runs, Asked, Told, IsComplete}
+use Rattle.gh_driver.specs.Top.{StatusNamed, IsUnrefused, Answer, Answers, Outputs, ran, refused_by, checked_answer, answer_of, Gives, WriteCause, Shelves, IsQuiet, Runs, Asked, Told, IsComplete}
 use Rattle.gh_driver.specs.declared.words.Words.{Words}
 use Rattle.gh_driver.proofs.Runs.{whole_front, appends_none}
 
@@ -106,3 +106,21 @@ complete words table shelf s o (inl m) n file is tells quiet = inl m.0
 complete words table shelf s o (inr asked) n file is tells quiet =
     let P : Option Words → Type 0 = λ w. Asked table w shelf s o in
     given_run table n file shelf s o tells quiet (subst P is asked)
+
+-- a status that is no refusal has no ids
+pub unrefused_named : (table : Table) (s : Status) → IsUnrefused s → StatusNamed table s
+unrefused_named table (status.Refused r) h = absurd h
+unrefused_named table status.Accepted h = tt
+unrefused_named table status.Ended h = tt
+unrefused_named table status.Usage h = tt
+unrefused_named table status.OutOfSteps h = tt
+unrefused_named table (status.MainFailed stop) h = tt
+unrefused_named table (status.ReadFault i) h = tt
+unrefused_named table status.WriteFault h = tt
+unrefused_named table status.NoMemory h = tt
+
+pub memory_named : (table : Table) (s : Status) → s ≡ status.NoMemory → StatusNamed table s
+memory_named table s e = subst (StatusNamed table) (sym e) tt
+
+pub memory_unrefused : (s : Status) → s ≡ status.NoMemory → IsUnrefused s
+memory_unrefused s e = subst IsUnrefused (sym e) tt

@@ -18,13 +18,13 @@ use Rattle.gh_driver.specs.Scope.{Use, first_unknown}
 abbrev pub span_at : ℕ → ℕ → Span
 span_at from to = record { file = 1; from = from; to = to }
 
-abbrev pub id_at : Option ℕ → NameId
-id_at None = record { 0 = 0 }
-id_at (Some n) = record { 0 = n }
+abbrev pub id_at : ℕ → Option ℕ → NameId
+id_at end None = record { 0 = end }
+id_at end (Some n) = record { 0 = n }
 
--- the number of a text in a table that has it
+-- the number of a text in a table, or the one after all where the table has no such text
 abbrev pub id_of : Table → List ℕ → NameId
-id_of table text = id_at (place_of table text)
+id_of table text = id_at (length table) (place_of table text)
 
 abbrev pub unknown_name : Table → Use → Refusal
 unknown_name table u = refusal.UnknownName (span_at u.from u.to) (id_of table u.name)

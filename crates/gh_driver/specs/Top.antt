@@ -11,7 +11,7 @@ use Rattle.gh_driver.specs.declared.status.Status.TheVariants as status
 use Rattle.gh_driver.specs.declared.words.Words.{Words}
 use Rattle.gh_driver.specs.declared.words.Words.TheVariants as meaning
 use Rattle.gh_driver.specs.Words.{meaning_of, built_of}
-use Rattle.gh_driver.specs.Lines.{Table, refusal_line_of, usage_line, steps_line, read_line_of}
+use Rattle.gh_driver.specs.Lines.{Table, IsNamed, refusal_line_of, usage_line, steps_line, read_line_of}
 use Rattle.gh_driver.specs.Check.{checked_of}
 use Rattle.gh_driver.specs.Core.{has_ended, printed_by}
 
@@ -147,3 +147,27 @@ abbrev pub IsComplete : List (List ℕ) → Table → Shelves → Status → Out
 IsComplete words table shelf s o =
     (n : ℕ) (file : List ℕ) → built_of (meaning_of words) ≡ Some (meaning.Run n (file ∷ [])) → IsTrue shelf.tells → IsQuiet file shelf o
     → (s ≡ status.NoMemory) ⊎ ((whole : List ℕ) × (shelf.held file ≡ Some whole) × Gives (answer_of table n file (take 1048577 whole)) s o)
+
+-- the ids of a refusal are of the table
+abbrev pub StatusNamed : Table → Status → Type 0
+StatusNamed table (status.Refused r) = IsNamed table r
+StatusNamed table status.Accepted = Unit {0}
+StatusNamed table status.Ended = Unit {0}
+StatusNamed table status.Usage = Unit {0}
+StatusNamed table status.OutOfSteps = Unit {0}
+StatusNamed table (status.MainFailed stop) = Unit {0}
+StatusNamed table (status.ReadFault i) = Unit {0}
+StatusNamed table status.WriteFault = Unit {0}
+StatusNamed table status.NoMemory = Unit {0}
+
+-- the status is no refusal
+abbrev pub IsUnrefused : Status → Type 0
+IsUnrefused (status.Refused r) = ⊥
+IsUnrefused status.Accepted = Unit {0}
+IsUnrefused status.Ended = Unit {0}
+IsUnrefused status.Usage = Unit {0}
+IsUnrefused status.OutOfSteps = Unit {0}
+IsUnrefused (status.MainFailed stop) = Unit {0}
+IsUnrefused (status.ReadFault i) = Unit {0}
+IsUnrefused status.WriteFault = Unit {0}
+IsUnrefused status.NoMemory = Unit {0}

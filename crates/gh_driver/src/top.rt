@@ -4,7 +4,7 @@ ghost use Rattle.gh_outside.specs.Outside.{Rose, Appends, AppendsFront};
 ghost use Rattle.gh_driver.specs.Lines.{IsNamed, IsIn, steps_line, usage_line};
 ghost use Rattle.gh_driver.specs.Check.{checked_of};
 ghost use Rattle.gh_base.specs.Refusals.{span_of};
-ghost use Rattle.gh_driver.specs.Top.{Outputs, Shelves, Answers, misused, unread, refused_by, ran, checked_answer, answer_of, Asked, Told, IsComplete, NoRoom, Runs};
+ghost use Rattle.gh_driver.specs.Top.{Outputs, Shelves, Answers, misused, unread, refused_by, ran, checked_answer, answer_of, Asked, Told, IsComplete, NoRoom, Runs, StatusNamed, IsUnrefused};
 
 use crate::check::{Checked, check};
 use crate::lines::{read_line, refusal_line};
@@ -32,7 +32,7 @@ fn out_of_memory<E: Out>(err: &mut E) -> Status
 }
 
 // Runs a program, and says how the run has ended.
-#[tactic(auto, unfolding(crate::specs::Lines::steps_line), using(crate::proofs::Tops::ran_going, crate::proofs::Tops::ran_unsaid, crate::proofs::Tops::ran_unwritten, crate::proofs::Tops::ran_out_of_memory))]
+#[tactic(auto, unfolding(crate::specs::Lines::steps_line), using(crate::proofs::Tops::ran_going, crate::proofs::Tops::ran_unsaid, crate::proofs::Tops::ran_unwritten, crate::proofs::Tops::ran_out_of_memory, crate::proofs::Tops::memory_unrefused))]
 fn run_program<O: Out, E: Out>(
     alloc: Global,
     program: &Program,
@@ -40,7 +40,7 @@ fn run_program<O: Out, E: Out>(
     out: &mut O,
     err: &mut E,
 ) -> Status
-    ensures { Answers (ran program.now steps) result (record {
+    ensures told { Answers (ran program.now steps) result (record {
       out_old = O.written out.old;
       out_new = O.written out.new;
       out_faults_old = O.faults out.old;
@@ -50,6 +50,7 @@ fn run_program<O: Out, E: Out>(
       err_faults_old = E.faults err.old;
       err_faults_new = E.faults err.new;
     }) }
+    ensures accepted { IsUnrefused result }
 {
     match run_main(alloc, out, program, steps) {
         Ok(true) => Status::Ended,
@@ -66,7 +67,7 @@ fn run_program<O: Out, E: Out>(
 }
 
 // Puts the line of a refusal.
-#[tactic(auto, using(crate::proofs::Tops::nothing_added, crate::proofs::Tops::no_front))]
+#[tactic(auto, using(crate::proofs::Tops::nothing_added, crate::proofs::Tops::no_front, crate::proofs::Tops::memory_named))]
 fn refuse<O: Out, E: Out>(
     alloc: Global,
     names: &Names,
@@ -77,7 +78,7 @@ fn refuse<O: Out, E: Out>(
 ) -> Status
     requires named { IsNamed names.now refusal }
     requires placed { IsIn files.now (span_of refusal) }
-    ensures { Answers (refused_by names.now files.now refusal) result (record {
+    ensures told { Answers (refused_by names.now files.now refusal) result (record {
       out_old = O.written out.old;
       out_new = O.written out.new;
       out_faults_old = O.faults out.old;
@@ -87,6 +88,7 @@ fn refuse<O: Out, E: Out>(
       err_faults_old = E.faults err.old;
       err_faults_new = E.faults err.new;
     }) }
+    ensures named { StatusNamed names.now result }
 {
     let _ = &out;
     let Ok(line) = refusal_line(alloc, names, files, &refusal) else {
@@ -108,7 +110,7 @@ fn one_source(alloc: Global, file: &[u8], bytes: Bytes) -> Result<ListOf<Source>
 }
 
 // Answers a run of a file that was read.
-#[tactic(auto, unfolding(crate::specs::Top::answer_of), using(crate::proofs::Plain::refusal_placed, crate::proofs::Tops::answer_refused, crate::proofs::Tops::answer_ran))]
+#[tactic(auto, unfolding(crate::specs::Top::answer_of), using(crate::proofs::Plain::refusal_placed, crate::proofs::Tops::answer_refused, crate::proofs::Tops::answer_ran, crate::proofs::Tops::unrefused_named, crate::proofs::Tops::memory_named))]
 fn run_bytes<O: Out, E: Out>(
     alloc: Global,
     names: &mut Names,
@@ -118,7 +120,7 @@ fn run_bytes<O: Out, E: Out>(
     out: &mut O,
     err: &mut E,
 ) -> Status
-    ensures { NoRoom result (record {
+    ensures told { NoRoom result (record {
       out_old = O.written out.old;
       out_new = O.written out.new;
       out_faults_old = O.faults out.old;
@@ -137,6 +139,7 @@ fn run_bytes<O: Out, E: Out>(
       err_faults_old = E.faults err.old;
       err_faults_new = E.faults err.new;
     }) }
+    ensures named { StatusNamed names.new result }
 {
     match check(alloc, names, bytes.as_slice()) {
         Err(_) => out_of_memory(err),
@@ -151,9 +154,9 @@ fn run_bytes<O: Out, E: Out>(
 }
 
 // Says that the file could not be read.
-#[tactic(auto, using(crate::proofs::Tops::nothing_added, crate::proofs::Tops::no_front))]
+#[tactic(auto, using(crate::proofs::Tops::nothing_added, crate::proofs::Tops::no_front, crate::proofs::Tops::memory_unrefused))]
 fn cannot_read<O: Out, E: Out>(alloc: Global, file: &[u8], out: &mut O, err: &mut E) -> Status
-    ensures { Answers (unread file.now) result (record {
+    ensures told { Answers (unread file.now) result (record {
       out_old = O.written out.old;
       out_new = O.written out.new;
       out_faults_old = O.faults out.old;
@@ -163,6 +166,7 @@ fn cannot_read<O: Out, E: Out>(alloc: Global, file: &[u8], out: &mut O, err: &mu
       err_faults_old = E.faults err.old;
       err_faults_new = E.faults err.new;
     }) }
+    ensures accepted { IsUnrefused result }
 {
     let _ = &out;
     let Ok(line) = read_line(alloc, file) else {
@@ -175,6 +179,7 @@ fn cannot_read<O: Out, E: Out>(alloc: Global, file: &[u8], out: &mut O, err: &mu
 }
 
 // Reads the file and runs it.
+#[tactic(auto, using(crate::proofs::Tops::unrefused_named, crate::proofs::Tops::memory_named))]
 fn run_file<S: Shelf, O: Out, E: Out>(
     alloc: Global,
     names: &mut Names,
@@ -184,7 +189,7 @@ fn run_file<S: Shelf, O: Out, E: Out>(
     out: &mut O,
     err: &mut E,
 ) -> Status
-    ensures { NoRoom result (record {
+    ensures told { NoRoom result (record {
       out_old = O.written out.old;
       out_new = O.written out.new;
       out_faults_old = O.faults out.old;
@@ -203,6 +208,7 @@ fn run_file<S: Shelf, O: Out, E: Out>(
       err_faults_old = E.faults err.old;
       err_faults_new = E.faults err.new;
     }) }
+    ensures named { StatusNamed names.new result }
 {
     match shelf.read_file(file, 1_048_577) {
         Ok(bytes) => run_bytes(alloc, names, steps, file.as_slice(), bytes, out, err),
@@ -212,7 +218,7 @@ fn run_file<S: Shelf, O: Out, E: Out>(
 }
 
 // Answers the words.
-#[tactic(auto, unfolding(crate::specs::Lines::usage_line), using(crate::proofs::Tops::nothing_added, crate::proofs::Tops::no_front))]
+#[tactic(auto, unfolding(crate::specs::Lines::usage_line), using(crate::proofs::Tops::nothing_added, crate::proofs::Tops::no_front, crate::proofs::Tops::memory_named))]
 fn answer<S: Shelf, O: Out, E: Out>(
     alloc: Global,
     names: &mut Names,
@@ -221,7 +227,7 @@ fn answer<S: Shelf, O: Out, E: Out>(
     out: &mut O,
     err: &mut E,
 ) -> Status
-    ensures { Told words.now names.new (record { tells = S.tells shelf.old; held = S.held shelf.old; faults_old = S.faults shelf.old; faults_new = S.faults shelf.new }) result (record {
+    ensures told { Told words.now names.new (record { tells = S.tells shelf.old; held = S.held shelf.old; faults_old = S.faults shelf.old; faults_new = S.faults shelf.new }) result (record {
       out_old = O.written out.old;
       out_new = O.written out.new;
       out_faults_old = O.faults out.old;
@@ -231,6 +237,7 @@ fn answer<S: Shelf, O: Out, E: Out>(
       err_faults_old = E.faults err.old;
       err_faults_new = E.faults err.new;
     }) }
+    ensures named { StatusNamed names.new result }
 {
     match read_words(alloc, words) {
         Err(WordsFault::NoMemory) => out_of_memory(err),
@@ -280,6 +287,8 @@ pub fn genhs<S: Shelf, O: Out, E: Out>(
       err_faults_old = E.faults err.old;
       err_faults_new = E.faults err.new;
     }) }
+    // A name that a refusal has is of the table, so its line has the text of that name.
+    ensures named { StatusNamed names.new result }
 {
     answer(alloc, names, words, shelf, out, err)
 }
