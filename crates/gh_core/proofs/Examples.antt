@@ -1,15 +1,14 @@
 -- Worked runs, with their numbers of reductions counted by hand, and small cases of the definitions.
-use Rattle.std.proofs.Common.{◌≡◌, ℕ, ℤ, pos, negsuc, ◌-◌, ◌^◌, List, [], ◌∷◌, refl}
+use Rattle.std.proofs.Common.{◌≡◌, ℕ, pos, negsuc, ◌-◌, ◌^◌, List, [], ◌∷◌, refl}
 use Rattle.std.specs.Prelude.{codes}
 use Rattle.std.specs.Char.{encode_utf8}
-use Rattle.gh_base.specs.declared.fixed.TheConstants.{PRELUDE, MAIN_MODULE, MAIN, PLUS, QUOT, CHR, ORD, ERROR, CON}
-use Rattle.gh_base.specs.declared.place.Origin.{Origin}
+use Rattle.gh_base.specs.declared.fixed.TheConstants.{MAIN_MODULE, MAIN, PLUS, QUOT, CHR, ORD, ERROR, CON}
 use Rattle.gh_base.specs.declared.place.Span.{Span}
 use Rattle.gh_base.specs.declared.place.Space.TheVariants.{Values}
 use Rattle.gh_core.specs.declared.terms.CoreName.TheVariants.{Plain}
-use Rattle.gh_core.specs.Terms.{Term, var, glob, con, lit, int, char, string, prim, lam, app, letrec, cases, stop, whole, bind, no_bind, con_alt, lit_alt, no_alt, else_to, alt}
-use Rattle.gh_core.specs.Primitives.{prelude_value, nil, cons, error_called, no_match, divide_by_zero, no_character, Outcome, number, on_integers, plus, times, quot, rem}
-use Rattle.gh_core.specs.Reduce.{Program, State, Status, running, ended, failed, at, reductions}
+use Rattle.gh_core.specs.Terms.{Term, var, glob, con, lit, int, char, string, prim, lam, app, letrec, cases, stop, bind, no_bind, con_alt, lit_alt, no_alt, else_to, alt}
+use Rattle.gh_core.specs.Primitives.{prelude_value, nil, cons, error_called, no_match, divide_by_zero, no_character, number, on_integers, plus, quot, rem}
+use Rattle.gh_core.specs.Reduce.{Program, Status, running, ended, failed, at, reductions}
 use Rattle.gh_core.specs.Run.{Seen, seen, start}
 use Rattle.gh_core.specs.SameType.{bound, free, nameless_var}
 

@@ -1,5 +1,5 @@
 -- Types without names of bound variables, form by form.
-use Rattle.std.proofs.Common.{◌≡◌, ℕ, ◌+◌, Bool, true, false, cond, List, [], ◌∷◌, refl, sym, ap, ◌∙◌, subst, ◌==◌, IsTrue}
+use Rattle.std.proofs.Common.{◌≡◌, ℕ, Bool, true, false, cond, List, [], ◌∷◌, refl, sym, ap, ◌∙◌, subst, ◌==◌, IsTrue}
 use Rattle.std.proofs.lemmas.Bool.{true≢false, false≢true}
 use Rattle.gh_base.specs.declared.place.TyCon.{TyCon}
 use Rattle.gh_typeterm.specs.declared.kind.Kind.{Kind}

@@ -1,8 +1,8 @@
 -- Several reductions.
-use Rattle.std.proofs.Common.{◌≡◌, ℕ, zero, suc, ◌+◌, List, Option, Some, None, refl, sym, ap, ◌∙◌, arith}
+use Rattle.std.proofs.Common.{◌≡◌, ℕ, zero, suc, ◌+◌, refl, sym, ap, ◌∙◌, arith}
 use Rattle.gh_base.specs.declared.place.Span.{Span}
 use Rattle.gh_core.specs.Primitives.{Cause}
-use Rattle.gh_core.specs.Reduce.{Program, State, Status, running, ended, failed, reduce, reduce_in, reductions}
+use Rattle.gh_core.specs.Reduce.{Program, State, ended, failed, reduce, reduce_in, reductions}
 
 pub reductions_zero : (p : Program) (s : State) → reductions p 0 s ≡ s
 unfolding reductions

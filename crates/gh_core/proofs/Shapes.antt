@@ -1,24 +1,18 @@
 -- How erasure goes through each form of a term.
 use Rattle.std.proofs.lemmas.List.{take_more, map-append, append_assoc, append-nil}
-use Rattle.std.proofs.Common.{◌≡◌, ℤ, ◌+◌, ◌<◌, ◌++◌, length, take, get_or, List, [], ◌∷◌, map, refl, sym, ap, ◌∙◌}
-use Rattle.std.specs.Prelude.{ℕ, Option, Some, None, option_map}
+use Rattle.std.proofs.Common.{◌≡◌, ◌+◌, ◌<◌, ◌++◌, length, take, get_or, List, [], ◌∷◌, map, refl, sym, ap, ◌∙◌}
+use Rattle.std.specs.Prelude.{ℕ}
 use Rattle.gh_base.specs.declared.place.Origin.{Origin}
-use Rattle.gh_base.specs.declared.place.Span.{Span}
-use Rattle.gh_typeterm.specs.declared.kind.Kind.{Kind}
 use Rattle.gh_core.specs.declared.types.CoreType.{CoreType}
-use Rattle.gh_core.specs.declared.terms.CoreName.{CoreName}
 use Rattle.gh_core.specs.declared.terms.CoreTerm.{CoreTerm, fold-roll-CoreTerm}
 use Rattle.gh_core.specs.declared.terms.CoreTerm.TheVariants as c
 use Rattle.gh_core.specs.declared.terms.CoreAlt.TheShapes.{former-CoreTerm-LetRec-0}
-use Rattle.gh_core.specs.declared.terms.CoreAlt.TheOpen.{CoreTerm-F, CoreAlt-F}
-use Rattle.gh_core.specs.declared.terms.CoreAlt.{CoreAlt, fold-roll-CoreAlt}
-use Rattle.gh_core.specs.declared.terms.CoreAlt.TheVariants as d
+use Rattle.gh_core.specs.declared.terms.CoreAlt.TheOpen.{CoreTerm-F}
 use Rattle.gh_core.specs.declared.erased.ErasedTerm.{ErasedTerm}
 use Rattle.gh_core.specs.declared.erased.ErasedAlt.{ErasedAlt}
 use Rattle.gh_core.specs.declared.erased.ErasedTerm.TheVariants as t
-use Rattle.gh_core.specs.declared.erased.ErasedAlt.TheVariants as a
 use Rattle.gh_typeterm.specs.declared.decl.DeclData.{DeclData}
-use Rattle.gh_core.specs.Erase.{newtypes_in, newtypes_of, erased, erased_alt, erased_bind, erased_step, erased_alt_step}
+use Rattle.gh_core.specs.Erase.{newtypes_in, newtypes_of, erased, erased_bind, erased_step, erased_alt_step}
 
 -- one more item, mapped
 pub push_mapped : {X Y : Type 0} (f : X → Y) (xs : List X) (i : ℕ) (out new : List Y) (x : X) (y : Y)

@@ -2,14 +2,13 @@
 use Rattle.std.specs.Prelude.{ℕ, zero, suc, Bool, true, false, cond, ◌==◌, ◌&&◌, List, [], ◌∷◌, ◌++◌, Option, Some, None, length, drop}
 use Rattle.std.specs.Char.{encode_utf8}
 use Rattle.std.specs.Ordering.{int_eq}
-use Rattle.gh_base.specs.declared.names.NameId.{NameId}
 use Rattle.gh_base.specs.declared.place.Origin.{Origin}
 use Rattle.gh_base.specs.declared.place.Span.{Span}
 use Rattle.gh_base.specs.declared.place.TyCon.{TyCon}
 use Rattle.gh_base.specs.declared.place.TyCon.TheVariants.{Named, Arrow, Int, Char, ConOf}
 use Rattle.gh_core.specs.declared.terms.CoreName.{CoreName}
 use Rattle.gh_core.specs.declared.terms.CoreName.TheVariants.{Plain, Hidden, Component, From, To, Bimap}
-use Rattle.gh_core.specs.Terms.{Literal, int, char, Term, var, glob, con, lit, string, prim, lam, app, letrec, cases, stop, whole, contents, Alt, con_alt, lit_alt, Alts, no_alt, else_to, alt}
+use Rattle.gh_core.specs.Terms.{Literal, int, char, Term, var, glob, con, lit, string, prim, lam, app, letrec, cases, stop, whole, contents, con_alt, lit_alt, Alts, no_alt, else_to, alt}
 use Rattle.gh_core.specs.Closing.{empty, close, put, put_all, put_rec}
 use Rattle.gh_core.specs.Primitives.{Cause, error_called, no_match, nil, cons, same_origin, Unary, Binary, Primitive, error, unary, binary, named, primitives, Outcome, gives, fails, nothing, unary_outcome, binary_outcome}
 

@@ -1,6 +1,5 @@
 -- Runs of core programs.
-use Rattle.std.specs.Prelude.{ℕ, List, [], map}
-use Rattle.gh_core.specs.declared.terms.CoreName.{CoreName}
+use Rattle.std.specs.Prelude.{ℕ, List, []}
 use Rattle.gh_core.specs.declared.erased.Erased.{Erased}
 use Rattle.gh_core.specs.declared.erased.ErasedTerm.{ErasedTerm}
 use Rattle.gh_core.specs.Terms.{Term}

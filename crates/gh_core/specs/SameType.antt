@@ -1,5 +1,5 @@
 -- Types up to the numbers of their bound variables.
-use Rattle.std.specs.Prelude.{◌≡◌, ℕ, zero, suc, ◌==◌, Bool, true, false, cond, List, [], ◌∷◌}
+use Rattle.std.specs.Prelude.{◌≡◌, ℕ, suc, ◌==◌, cond, List, [], ◌∷◌}
 use Rattle.gh_base.specs.declared.place.TyCon.{TyCon}
 use Rattle.gh_typeterm.specs.declared.kind.Kind.{Kind}
 use Rattle.gh_core.specs.declared.types.CoreType.{CoreType, fold-CoreType}

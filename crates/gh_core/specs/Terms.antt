@@ -1,5 +1,5 @@
 -- Terms of core without types, as the definition of reduction reads them.
-use Rattle.std.specs.Prelude.{ℕ, ℤ, List, [], ◌∷◌}
+use Rattle.std.specs.Prelude.{ℕ, ℤ, List}
 use Rattle.gh_base.specs.declared.place.Origin.{Origin}
 use Rattle.gh_base.specs.declared.place.Span.{Span}
 use Rattle.gh_core.specs.declared.terms.CoreName.{CoreName}

@@ -59,7 +59,7 @@ fn declared(alloc: Global, name: u32, is_newtype: bool) -> Result<DeclData, NoMe
         fields: ListOf::new(alloc),
     })?;
     Ok(DeclData {
-        origin: value(name + 100),
+        origin: value(7),
         is_newtype,
         params: ListOf::new(alloc),
         constructors,
@@ -112,41 +112,81 @@ fn erases(rt: HostRuntime) -> Result<(), Fail> {
     };
     let erased = erase_core(alloc, &program(alloc, place)?)?;
     assert!(rt; erased.newtypes.as_slice() == [value(2)].as_slice());
-    assert!(rt;
-        matches!(&erased.main, ErasedTerm::Global(name) if *name == CoreName::Plain(value(9)))
-    );
-    let found = match erased.defs.as_slice() {
-        [(name, ErasedTerm::Lam(1, body))] => *name == CoreName::Plain(value(9))
-            && is_body(body.get(), place),
-        _ => false,
-    };
-    assert!(rt; found);
+    assert!(rt; is_global(&erased.main));
+    assert!(rt; erased.defs.as_slice().len() == 1);
+    let (name, term) = &erased.defs.as_slice()[0];
+    assert!(rt; *name == CoreName::Plain(value(9)));
+    assert!(rt; is_function(term, place));
     Ok(())
+}
+
+fn is_global(term: &ErasedTerm) -> bool {
+    match term {
+        ErasedTerm::Global(name) => *name == CoreName::Plain(value(9)),
+        _ => false,
+    }
+}
+
+fn is_function(term: &ErasedTerm, place: Span) -> bool {
+    match term {
+        ErasedTerm::Lam(name, body) => *name == 1 && is_body(body.get(), place),
+        _ => false,
+    }
 }
 
 // `letrec y = 5 in case x of { C z -> z; else stop }`
 fn is_body(term: &ErasedTerm, place: Span) -> bool {
-    let ErasedTerm::LetRec(bindings, case) = term else {
-        return false;
-    };
-    if !matches!(bindings.as_slice(), [(2, ErasedTerm::Int(5))]) {
-        return false;
-    }
-    match case.get() {
-        ErasedTerm::Case(scrutinee, alternatives, Some(otherwise)) => {
-            matches!(scrutinee.get(), ErasedTerm::Var(1))
-                && matches!(otherwise.get(), ErasedTerm::Stop(at) if *at == place)
-                && is_alternative(alternatives.as_slice())
+    match term {
+        ErasedTerm::LetRec(bindings, case) => {
+            let bindings = bindings.as_slice();
+            bindings.len() == 1 && is_binding(&bindings[0]) && is_case(case.get(), place)
         }
         _ => false,
     }
 }
 
-fn is_alternative(alternatives: &[ErasedAlt]) -> bool {
-    match alternatives {
-        [ErasedAlt::Con(con, names, ErasedTerm::Var(3))] => {
-            *con == value(1) && names.as_slice() == [3].as_slice()
+fn is_binding(binding: &(u32, ErasedTerm)) -> bool {
+    match &binding.1 {
+        ErasedTerm::Int(number) => binding.0 == 2 && *number == 5,
+        _ => false,
+    }
+}
+
+fn is_case(term: &ErasedTerm, place: Span) -> bool {
+    match term {
+        ErasedTerm::Case(scrutinee, alternatives, otherwise) => {
+            let alternatives = alternatives.as_slice();
+            is_variable(scrutinee.get(), 1)
+                && alternatives.len() == 1
+                && is_alternative(&alternatives[0])
+                && is_stop(otherwise, place)
         }
         _ => false,
+    }
+}
+
+fn is_variable(term: &ErasedTerm, number: u32) -> bool {
+    match term {
+        ErasedTerm::Var(name) => *name == number,
+        _ => false,
+    }
+}
+
+fn is_alternative(alternative: &ErasedAlt) -> bool {
+    match alternative {
+        ErasedAlt::Con(con, names, term) => {
+            *con == value(1) && names.as_slice() == [3].as_slice() && is_variable(term, 3)
+        }
+        _ => false,
+    }
+}
+
+fn is_stop(term: &Option<Boxed<ErasedTerm>>, place: Span) -> bool {
+    match term {
+        Some(term) => match term.get() {
+            ErasedTerm::Stop(at) => *at == place,
+            _ => false,
+        },
+        None => false,
     }
 }

@@ -1,4 +1,4 @@
-use Rattle.std.proofs.Common.{rules, arith}
+use Rattle.std.proofs.Common.{arith}
 use Rattle.gh_core.proofs.Shapes.{newtypes_more}
 use Rattle.gh_core.proofs.erase.newtypes.Goals as goal
 

@@ -1,4 +1,4 @@
-use Rattle.std.proofs.Common.{rules, ◌≡◌, ◌∙◌, sym, ap, IsTrue}
+use Rattle.std.proofs.Common.{◌∙◌, sym, ap}
 use Rattle.gh_core.specs.SameType.{nameless}
 use Rattle.gh_core.specs.Scopes.{lefts, rights}
 use Rattle.gh_core.proofs.Nameless.{never, apart_Var, apart_Con, apart_App, apart_Forall, apart_Any}

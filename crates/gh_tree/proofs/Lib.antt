@@ -1,0 +1,4 @@
+pub mod Capped
+pub mod DepthAt
+pub mod Examples
+pub mod Printed

@@ -1,0 +1,6 @@
+use Rattle.std.proofs.Common.{◌≡◌, map, take}
+use Rattle.gh_tree.specs.Depth.{capped, deepest, constr_depth}
+use Rattle.gh_tree.proofs.depth_tops.next_constrs_depth.Given as goal
+
+abbrev pub invariant-loop-part : goal.invariant-loop-part
+invariant-loop-part l = l.most ≡ capped (deepest (map (λ x. constr_depth x.constr) (take l.part-index l.parts)))

@@ -1,0 +1,5 @@
+pub mod Types
+pub mod Kept
+pub mod Causes
+pub mod Tables
+pub mod Steps

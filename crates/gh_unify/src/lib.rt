@@ -1,0 +1,10 @@
+//! Unification of type terms: a most general solution of all equations so far, in scope and in size.
+#![tactic(auto)]
+
+mod solving;
+mod table;
+#[cfg(test)]
+mod tests;
+mod unifier;
+
+pub use unifier::{Unifier, UnifyFault};
