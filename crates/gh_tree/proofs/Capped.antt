@@ -23,7 +23,7 @@ push_deepest f xs i most new r x lt at gives old is =
     is ∙ (λ j. max (old j) ((gives ∙ ap (λ y. capped (f y)) at) j))
     ∙ capped_max (deepest (map f (take i xs))) (f (get_or xs i x))
     ∙ ap capped (sym (deepest-append (map f (take i xs)) (f (get_or xs i x)))
-        ∙ ap deepest (sym (ap (map f) (take_more xs i x lt) ∙ map-append f (take i xs) (get_or xs i x ∷ []))))
+    ∙ ap deepest (sym (ap (map f) (take_more xs i x lt) ∙ map-append f (take i xs) (get_or xs i x ∷ []))))
 
 pub one_is : 1 ≡ capped 1
 unfolding capped

@@ -310,9 +310,9 @@ pub rhs_guarded : (x0 : Span) (x1 : Guard) (x2 : List Guard) (x3 : Where) → ca
 unfolding aexp_depth alt_depth decl_depth exp_depth locals_depth open_depth operand_depth rhs_depth where_depth alt_guard_depth alt_item_depth alts_depth decl_item_depth decls_depth guard_depth next_operand_depth operands_depth part_depth redef_depth redef_item_depth redefs_depth
 rhs_guarded x0 x1 x2 x3 = ap (λ d. capped d) (ap rhs_depth (sym (v_Rhs.rolls-Guarded x0 x1 x2 x3)) ∙ fold-roll-Rhs ℕ ℕ ℕ ℕ ℕ ℕ ℕ ℕ ℕ ℕ ℕ ℕ ℕ ℕ ℕ ℕ ℕ ℕ ℕ ℕ ℕ aexp_step alt_step decl_step exp_step locals_step open_step operand_step rhs_step where_step alt_guard_step alt_item_step alts_step decl_item_step decls_step guard_step next_operand_step operands_step part_step redef_step redef_item_step redefs_step (Rhs-F.Rhs::Guarded x0 x1 x2 x3)) ∙ ap (λ (n : ℕ). capped (1 + n + (max (guard_depth x1) (max (deepest (map guard_depth x2)) (where_depth x3))))) (length-map x2 guard_depth) ∙ sym (capped_adds (1 + length x2) (max (guard_depth x1) (max (deepest (map guard_depth x2)) (where_depth x3)))) ∙ ap (capped_sum (capped (1 + length x2))) (sym (capped_max (guard_depth x1) (max (deepest (map guard_depth x2)) (where_depth x3))) ∙ ap (max (capped (guard_depth x1))) (sym (capped_max (deepest (map guard_depth x2)) (where_depth x3))))
 
-pub where_absent : capped (where_depth (v_Where.Absent )) ≡ 0
+pub where_absent : capped (where_depth (v_Where.Absent)) ≡ 0
 unfolding aexp_depth alt_depth decl_depth exp_depth locals_depth open_depth operand_depth rhs_depth where_depth alt_guard_depth alt_item_depth alts_depth decl_item_depth decls_depth guard_depth next_operand_depth operands_depth part_depth redef_depth redef_item_depth redefs_depth
-where_absent  = ap (λ d. capped d) (ap where_depth (sym (v_Where.rolls-Absent )) ∙ fold-roll-Where ℕ ℕ ℕ ℕ ℕ ℕ ℕ ℕ ℕ ℕ ℕ ℕ ℕ ℕ ℕ ℕ ℕ ℕ ℕ ℕ ℕ aexp_step alt_step decl_step exp_step locals_step open_step operand_step rhs_step where_step alt_guard_step alt_item_step alts_step decl_item_step decls_step guard_step next_operand_step operands_step part_step redef_step redef_item_step redefs_step (Where-F.Absent )) ∙ sym zero_is
+where_absent = ap (λ d. capped d) (ap where_depth (sym (v_Where.rolls-Absent)) ∙ fold-roll-Where ℕ ℕ ℕ ℕ ℕ ℕ ℕ ℕ ℕ ℕ ℕ ℕ ℕ ℕ ℕ ℕ ℕ ℕ ℕ ℕ ℕ aexp_step alt_step decl_step exp_step locals_step open_step operand_step rhs_step where_step alt_guard_step alt_item_step alts_step decl_item_step decls_step guard_step next_operand_step operands_step part_step redef_step redef_item_step redefs_step (Where-F.Absent)) ∙ sym zero_is
 
 pub where_block : (x0 : Span) (x1 : Decls) → capped (where_depth (v_Where.Block x0 x1)) ≡ capped (decls_depth x1)
 unfolding aexp_depth alt_depth decl_depth exp_depth locals_depth open_depth operand_depth rhs_depth where_depth alt_guard_depth alt_item_depth alts_depth decl_item_depth decls_depth guard_depth next_operand_depth operands_depth part_depth redef_depth redef_item_depth redefs_depth

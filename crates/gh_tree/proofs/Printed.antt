@@ -312,7 +312,7 @@ printed_rhs_guarded x0 x1 x2 x3 = ap rhs (sym (v_Rhs.rolls-Guarded x0 x1 x2 x3))
 
 pub printed_where_absent : where_part v_Where.Absent ≡ print [] true
 unfolding aexp alt decl exp locals open_operand operand rhs where_part alt_guard alt_item alts decl_item decls guard next_operand operands part redef redef_item redefs
-printed_where_absent  = ap where_part (sym (v_Where.rolls-Absent)) ∙ fold-roll-Where Print Print Print Print Print Print Print Print Print Print Print Print Print Print Print Print Print Print Print Print Print aexp_step alt_step decl_step exp_step locals_step open_operand_step operand_step rhs_step where_part_step alt_guard_step alt_item_step alts_step decl_item_step decls_step guard_step next_operand_step operands_step part_step redef_step redef_item_step redefs_step Where-F.Absent
+printed_where_absent = ap where_part (sym (v_Where.rolls-Absent)) ∙ fold-roll-Where Print Print Print Print Print Print Print Print Print Print Print Print Print Print Print Print Print Print Print Print Print aexp_step alt_step decl_step exp_step locals_step open_operand_step operand_step rhs_step where_part_step alt_guard_step alt_item_step alts_step decl_item_step decls_step guard_step next_operand_step operands_step part_step redef_step redef_item_step redefs_step Where-F.Absent
 
 pub printed_where_block : (x0 : Span) (x1 : Decls) → where_part (v_Where.Block x0 x1) ≡ print (at k.Where x0 ∷ (decls x1).flat) (decls x1).good
 unfolding aexp alt decl exp locals open_operand operand rhs where_part alt_guard alt_item alts decl_item decls guard next_operand operands part redef redef_item redefs

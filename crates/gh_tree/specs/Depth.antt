@@ -225,7 +225,7 @@ rhs_step (Rhs-F.Rhs::Plain x0 x1 x2 x3) = 1 + (max x2 x3)
 rhs_step (Rhs-F.Rhs::Guarded x0 x1 x2 x3) = 1 + length x2 + (max x1 (max (deepest x2) x3))
 
 abbrev pub where_step : Where-F ℕ ℕ ℕ ℕ ℕ ℕ ℕ ℕ ℕ ℕ ℕ ℕ ℕ ℕ ℕ ℕ ℕ ℕ ℕ ℕ ℕ → ℕ
-where_step (Where-F.Absent ) = 0
+where_step (Where-F.Absent) = 0
 where_step (Where-F.Block x0 x1) = x1
 
 abbrev pub alt_guard_step : AltGuard-F ℕ ℕ ℕ ℕ ℕ ℕ ℕ ℕ ℕ ℕ ℕ ℕ ℕ ℕ ℕ ℕ ℕ ℕ ℕ ℕ ℕ → ℕ

@@ -281,7 +281,10 @@ abbrev pub operands_of : Span → List Sym → Print → List Print → Print
 operands_of span minus p ps = record {
   flat = minus ++ (p.flat ++ flat_all ps);
   good = (p.good && (good_all ps && closed_before p.is_open ps)) && same_span span (cover (minus ++ (p.flat ++ flat_all ps)));
-  is_open = last_open p.is_open ps; is_var = false; is_parted = false }
+  is_open = last_open p.is_open ps;
+  is_var = false;
+  is_parted = false;
+}
 
 -- types
 

@@ -3,7 +3,10 @@ ghost use Rattle.std.specs.Prelude.{◌≡◌, ◌+◌, max, map, length};
 ghost use Rattle.gh_tree.specs.Depth as spec;
 ghost use Rattle.gh_tree.specs.Depth.{capped, capped_sum, weight_of, deepest};
 
-use crate::expressions::{Aexp, Alt, AltGuard, AltItem, Alts, Decl, DeclItem, Decls, Exp, Guard, Locals, NextOperand, Open, Operand, OperandList, Part, RedefItem, Redefs, Rhs, Where};
+use crate::expressions::{
+    Aexp, Alt, AltGuard, AltItem, Alts, Decl, DeclItem, Decls, Exp, Guard, Locals, NextOperand,
+    Open, Operand, OperandList, Part, RedefItem, Redefs, Rhs, Where,
+};
 use crate::patterns::{ArgPattern, FunLhs, NextPattern, PatOperand, PatPart, Pattern};
 use crate::types::{ArgType, Arrow, BType, TypeExpr, TypePart};
 
@@ -253,7 +256,10 @@ pub fn fun_lhs_depth(node: &FunLhs) -> u32
             let inner = fun_lhs_depth(inner.get());
             let first = arg_pattern_depth(first.get());
             let rest = arg_patterns_depth(others.as_slice());
-            parts_above(others.as_slice().len(), greater(inner, greater(first, rest)))
+            parts_above(
+                others.as_slice().len(),
+                greater(inner, greater(first, rest)),
+            )
         }
     }
 }
@@ -341,7 +347,10 @@ pub fn locals_depth(node: &Locals) -> u32
 pub fn redefs_depth(node: &Redefs) -> u32
     ensures { result ≡ capped (spec.redefs_depth node.now) }
 {
-    list_above(node.redefs.as_slice().len(), redef_items_depth(node.redefs.as_slice()))
+    list_above(
+        node.redefs.as_slice().len(),
+        redef_items_depth(node.redefs.as_slice()),
+    )
 }
 
 #[cycle(exps)]
@@ -349,7 +358,10 @@ pub fn redefs_depth(node: &Redefs) -> u32
 pub fn decls_depth(node: &Decls) -> u32
     ensures { result ≡ capped (spec.decls_depth node.now) }
 {
-    list_above(node.decls.as_slice().len(), decl_items_depth(node.decls.as_slice()))
+    list_above(
+        node.decls.as_slice().len(),
+        decl_items_depth(node.decls.as_slice()),
+    )
 }
 
 #[cycle(exps)]
@@ -392,7 +404,10 @@ pub fn rhs_depth(node: &Rhs) -> u32
                 Where::Absent => 0,
                 Where::Block(_, block) => decls_depth(block.get()),
             };
-            parts_above(others.as_slice().len(), greater(first, greater(rest, locals)))
+            parts_above(
+                others.as_slice().len(),
+                greater(first, greater(rest, locals)),
+            )
         }
     }
 }
@@ -402,7 +417,10 @@ pub fn rhs_depth(node: &Rhs) -> u32
 pub fn alts_depth(node: &Alts) -> u32
     ensures { result ≡ capped (spec.alts_depth node.now) }
 {
-    list_above(node.alts.as_slice().len(), alt_items_depth(node.alts.as_slice()))
+    list_above(
+        node.alts.as_slice().len(),
+        alt_items_depth(node.alts.as_slice()),
+    )
 }
 
 #[cycle(exps)]

@@ -3,9 +3,15 @@ ghost use Rattle.std.specs.Prelude.{◌≡◌, ◌-◌, ◌^◌, min, map};
 ghost use Rattle.gh_tree.specs.Depth as spec;
 ghost use Rattle.gh_tree.specs.Depth.{capped, deepest};
 
-use crate::depth::{above, arg_patterns_depth, arg_type_depth, arg_types_depth, btype_depth, decl_depth, greater, list_above, rhs_depth, type_depth};
+use crate::depth::{
+    above, arg_patterns_depth, arg_type_depth, arg_types_depth, btype_depth, decl_depth, greater,
+    list_above, rhs_depth, type_depth,
+};
 use crate::module_tree::{Header, Item, ModuleTree, NextItem};
-use crate::tops::{Constr, Context, Entity, Export, Exports, Import, NextConstr, NextEntity, NextExport, Parts, Top};
+use crate::tops::{
+    Constr, Context, Entity, Export, Exports, Import, NextConstr, NextEntity, NextExport, Parts,
+    Top,
+};
 
 #[tactic(auto, using(crate::proofs::Capped::one_is, crate::proofs::Capped::zero_is))]
 fn parts_depth(parts: &Option<Parts>) -> u32

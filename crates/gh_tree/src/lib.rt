@@ -14,11 +14,13 @@ mod tops;
 mod types;
 
 pub use expressions::{
-    Aexp, Alt, AltGuard, Alts, Decl, Decls, Exp, Guard, Locals, AltItem, DeclItem, RedefItem,
-    Open, Operand, OperandList, NextOperand, Part, Redef, Redefs, Rhs, Where,
+    Aexp, Alt, AltGuard, AltItem, Alts, Decl, DeclItem, Decls, Exp, Guard, Locals, NextOperand,
+    Open, Operand, OperandList, Part, Redef, RedefItem, Redefs, Rhs, Where,
 };
 pub use module_tree::{Header, Item, ModuleTree, NextItem};
-pub use names::{BlockMark, Con, ConOp, FixityWord, GenCon, Name, NextName, NextOp, NextVar, Op, Var, VarOp};
+pub use names::{
+    BlockMark, Con, ConOp, FixityWord, GenCon, Name, NextName, NextOp, NextVar, Op, Var, VarOp,
+};
 pub use patterns::{ArgPattern, FunLhs, NextPattern, PatOperand, PatPart, Pattern};
 pub use symbol::{Kind, Sym};
 pub use tops::{

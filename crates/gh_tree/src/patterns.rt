@@ -79,21 +79,7 @@ pub enum FunLhs {
     /// A variable with its arguments, of which there may be none.
     Prefix(Span, Var, ListOf<ArgPattern>),
     /// A variable operator between operands, each side with its constructor operators.
-    Infix(
-        Span,
-        PatOperand,
-        ListOf<NextPattern>,
-        VarOp,
-        PatOperand,
-        ListOf<NextPattern>,
-    ),
+    Infix(Span, PatOperand, ListOf<NextPattern>, VarOp, PatOperand, ListOf<NextPattern>),
     /// A left side between parentheses with arguments, of which there is one at least.
-    Nested(
-        Span,
-        Span,
-        Boxed<FunLhs>,
-        Span,
-        Boxed<ArgPattern>,
-        ListOf<ArgPattern>,
-    ),
+    Nested(Span, Span, Boxed<FunLhs>, Span, Boxed<ArgPattern>, ListOf<ArgPattern>),
 }

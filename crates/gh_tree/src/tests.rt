@@ -1,7 +1,7 @@
 // Depths that were counted by hand.
 use crate::{
-    Aexp, BlockMark, Decl, Exp, FunLhs, Item, ModuleTree, Name, NextItem, Operand,
-    OperandList, Rhs, Top, Var, Where,
+    Aexp, BlockMark, Decl, Exp, FunLhs, Item, ModuleTree, Name, NextItem, Operand, OperandList,
+    Rhs, Top, Var, Where,
 };
 use gh_base::{ListOf, NameId, Span};
 use sqlite_items::Boxed;
@@ -9,16 +9,29 @@ use std::alloc::{AllocError, Global};
 use std::process::Abort;
 use std::test::Fail;
 
-const HERE: Span = Span { file: 1, from: 0, to: 0 };
+const HERE: Span = Span {
+    file: 1,
+    from: 0,
+    to: 0,
+};
 
 fn name(id: u32) -> Name {
-    Name { span: HERE, qualifier: None, id: NameId(id) }
+    Name {
+        span: HERE,
+        qualifier: None,
+        id: NameId(id),
+    }
 }
 
 // One operand, as an expression.
 fn alone(alloc: Global, head: Aexp, args: ListOf<Aexp>) -> Result<Exp, AllocError> {
     let first = Operand::Apply(HERE, Boxed::new(alloc, head)?, args);
-    let list = OperandList { span: HERE, minus: None, first, others: ListOf::new(alloc) };
+    let list = OperandList {
+        span: HERE,
+        minus: None,
+        first,
+        others: ListOf::new(alloc),
+    };
     Ok(Exp::Plain(Boxed::new(alloc, list)?))
 }
 
@@ -54,7 +67,11 @@ fn a_variable_has_depth_eight(rt: HostRuntime) -> Result<(), Fail> {
 fn parentheses_add_four(rt: HostRuntime) -> Result<(), Fail> {
     let alloc = rt.alloc();
     let inner = alone(alloc, variable(201), ListOf::new(alloc))?;
-    let outer = alone(alloc, Aexp::Paren(HERE, HERE, inner, HERE), ListOf::new(alloc))?;
+    let outer = alone(
+        alloc,
+        Aexp::Paren(HERE, HERE, inner, HERE),
+        ListOf::new(alloc),
+    )?;
     assert_eq!(rt; file(alloc, outer)?.depth(), 12);
     Ok(())
 }
@@ -67,7 +84,10 @@ fn arguments_add_their_number(rt: HostRuntime) -> Result<(), Fail> {
     args.push(variable(1))?;
     args.push(variable(2))?;
     args.push(variable(3))?;
-    assert_eq!(rt; file(alloc, alone(alloc, variable(201), args)?)?.depth(), 10);
+    assert_eq!(rt;
+        file(alloc, alone(alloc, variable(201), args)?)?.depth(),
+        10
+    );
     Ok(())
 }
 
@@ -76,7 +96,10 @@ fn arguments_add_their_number(rt: HostRuntime) -> Result<(), Fail> {
 fn an_empty_file_has_depth_one(rt: HostRuntime) -> Result<(), Fail> {
     let alloc = rt.alloc();
     let mut others = ListOf::new(alloc);
-    others.push(NextItem { mark: BlockMark::Inserted(0), item: Item::Empty })?;
+    others.push(NextItem {
+        mark: BlockMark::Inserted(0),
+        item: Item::Empty,
+    })?;
     let tree = ModuleTree {
         span: HERE,
         header: None,

@@ -142,15 +142,7 @@ pub enum Top {
     /// `type`, a name, parameters, `=` and a type.
     Synonym(Span, Span, Name, ListOf<Name>, Span, TypeExpr),
     /// `data`, a name, parameters, `=` and constructors, of which there is one at least.
-    Data(
-        Span,
-        Span,
-        Name,
-        ListOf<Name>,
-        Span,
-        Constr,
-        ListOf<NextConstr>,
-    ),
+    Data(Span, Span, Name, ListOf<Name>, Span, Constr, ListOf<NextConstr>),
     /// `newtype`, a name, parameters, `=`, a constructor and its field.
     Newtype(Span, Span, Name, ListOf<Name>, Span, Con, ArgType),
     /// The signature of a generic function: its variables, `::`, its dependencies and its type.

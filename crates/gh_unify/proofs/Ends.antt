@@ -1,5 +1,5 @@
 -- Scope and size of the most general solution, and the causes of refusals.
-use Rattle.std.proofs.Common.{◌≡◌, ◌↔◌, ℕ, suc, ◌+◌, ◌<◌, ◌≤◌, Bool, true, false, not, cond, eqb, ◌||◌, IsTrue, List, length, get_or, Option, Some, None, refl, sym, ap, ◌∙◌, subst, inl, inr, ◌⊎◌, arith}
+use Rattle.std.proofs.Common.{◌≡◌, ◌↔◌, ℕ, ◌<◌, ◌≤◌, Bool, true, false, not, IsTrue, List, length, get_or, Option, Some, None, refl, sym, ap, ◌∙◌, subst, inl, inr, arith}
 use Rattle.std.specs.Prelude.{MatchOption}
 use Rattle.std.specs.Option.{SomeIff, is_some}
 use Rattle.gh_typeterm.specs.Terms.{size_of}
@@ -7,16 +7,16 @@ use Rattle.gh_typeterm.specs.declared.ty.TyNode.{TyNode}
 use Rattle.gh_typeterm.specs.declared.ty.TyNode.TheVariants as t
 use Rattle.gh_unify.specs.Types.{Mono, con, var, app, name, Val, inst, has, nodes, head_of, mono}
 use Rattle.gh_unify.specs.Kept.{AreDrawn, CanBeMet, Eqs, Drawn, is_rigid, drawn_of, eqs_of, type_in, Solves, IsSolution, SolvesBoth, InScope, InSize, level_of, IsRead}
-use Rattle.gh_unify.specs.Causes.{Forced, IsFixed, Differ, IsLarger, Shows, HasNone, HasNoneInScope, HasNoneInSize, Lacks}
+use Rattle.gh_unify.specs.Causes.{IsFixed, Differ, IsLarger, Shows, HasNone, Lacks}
 use Rattle.gh_unify.specs.Tables.{best, value_of}
-use Rattle.gh_unify.specs.Steps.{IsFree, IsTidy, IsSettled, Solved, Reached, Blocked, Leaves, Exceeds, Stays}
+use Rattle.gh_unify.specs.Steps.{IsTidy, IsSettled, Reached, Blocked, Leaves, Exceeds, Stays}
 use Rattle.gh_unify.specs.declared.table.Variable.{Variable}
 use Rattle.gh_unify.specs.declared.unifier.UnifyFault.{UnifyFault}
 use Rattle.gh_unify.specs.declared.unifier.UnifyFault.TheVariants.{Clash, Occurs, Escapes, TooLarge, NoMemory}
 use Rattle.gh_unify.proofs.Insts.{IsVar, no_cycle, has-inst, nodes-inst, eqb-same, eqb-is, true-either}
 use Rattle.gh_unify.proofs.Solved.{forced_holds, is_best}
 use Rattle.gh_unify.proofs.Reading.{mono-Var, mono-App, nodes-mono}
-use Rattle.gh_unify.proofs.Tables.{drawn_length, rigid_entry, level_entry, type_entry}
+use Rattle.gh_unify.proofs.Tables.{drawn_length, level_entry, type_entry}
 
 -- a fixed head stays in every solution
 fixed_head : (E : Eqs) (D : Drawn) (ρ : Val) (u : Mono) → Solves E D ρ → IsFixed D u → head_of (inst ρ u) ≡ head_of u
@@ -38,7 +38,7 @@ larger (name m) n h = h
 clash_none : (kept : List Variable) (a b l r : TyNode) → Blocked (Clash l r) kept a b → HasNone kept a b
 clash_none kept a b l r h ρ s =
     differ_none (eqs_of kept) (drawn_of kept) ρ (mono l) (mono r) s.0 h.1
-      (forced_holds (eqs_of kept) (drawn_of kept) (mono a) (mono b) (mono l) (mono r) ρ s.0 s.1 h.0)
+    (forced_holds (eqs_of kept) (drawn_of kept) (mono a) (mono b) (mono l) (mono r) ρ s.0 s.1 h.0)
 
 occurs_none : (kept : List Variable) (a b : TyNode) (v : ℕ) (u : TyNode) → Blocked (Occurs v u) kept a b → HasNone kept a b
 occurs_none kept a b v u h ρ s =
@@ -93,12 +93,13 @@ leaves_shows : (kept made : List Variable) (a b : TyNode) (r v : ℕ) → drawn_
 leaves_shows kept made a b r v e reached l =
     let count = made_count kept made e in
     let drawn = l.drawn in
-    let rigid : IsTrue (is_rigid (drawn_of kept) r) = subst (λ (D : Drawn). IsTrue (is_rigid D r)) e l.rigid in
-    (omega (arith, count, drawn),
+    let rigid : IsTrue (is_rigid (drawn_of kept) r) = subst (λ (D : Drawn). IsTrue (is_rigid D r)) e l.rigid in (
+      omega (arith, count, drawn),
       rigid,
       subst (λ (D : Drawn). level_of D v < level_of D r) e l.higher,
       λ ρ s. sym (ap (has r) (made_value kept made a b e reached ρ s v))
-        ∙ has-inst ρ (best (eqs_of made) v) r r l.held (ap (has r) (s.0.rigid r rigid) ∙ eqb-same r))
+          ∙ has-inst ρ (best (eqs_of made) v) r r l.held (ap (has r) (s.0.rigid r rigid) ∙ eqb-same r),
+    )
 
 pub leaves_both : (kept made : List Variable) (a b : TyNode) (r v : ℕ) → drawn_of made ≡ drawn_of kept → Reached kept a b made → Leaves made r v
     → Lacks (Escapes r v) kept a b × Shows (Escapes r v) kept a b
@@ -107,10 +108,13 @@ leaves_both kept made a b r v e reached l =
     let tidy = made_tidy kept made a b e reached in
     let k = drawn_length kept in
     let drawn = shows.0 in
-    let higher = shows.2 in
-    (((best (eqs_of made), made_to kept made a b e reached (best (eqs_of made)) (best_solves made tidy)),
-      (λ ρ s scope. let low = scope v r (omega (arith, k, drawn)) shows.1 (shows.3 ρ s) in omega (arith, low, higher))),
-      shows)
+    let higher = shows.2 in (
+      (
+        (best (eqs_of made), made_to kept made a b e reached (best (eqs_of made)) (best_solves made tidy)),
+        (λ ρ s scope. let low = scope v r (omega (arith, k, drawn)) shows.1 (shows.3 ρ s) in omega (arith, low, higher)),
+      ),
+      shows,
+    )
 
 -- a type that is too large
 exceeds_shows : (kept made : List Variable) (a b : TyNode) (v : ℕ) → drawn_of made ≡ drawn_of kept → Reached kept a b made → Exceeds made v
@@ -118,11 +122,12 @@ exceeds_shows : (kept made : List Variable) (a b : TyNode) (v : ℕ) → drawn_o
 exceeds_shows kept made a b v e reached x =
     let count = made_count kept made e in
     let drawn = x.drawn in
-    let large = x.large in
-    (omega (arith, count, drawn),
+    let large = x.large in (
+      omega (arith, count, drawn),
       λ ρ s. let p = nodes-inst ρ (best (eqs_of made) v) in
-        let q : nodes (inst ρ (best (eqs_of made) v)) ≡ nodes (ρ v) = ap nodes (made_value kept made a b e reached ρ s v) in
-        omega (arith, large, p, q))
+          let q : nodes (inst ρ (best (eqs_of made) v)) ≡ nodes (ρ v) = ap nodes (made_value kept made a b e reached ρ s v) in
+          omega (arith, large, p, q),
+    )
 
 pub exceeds_both : (kept made : List Variable) (a b : TyNode) (v : ℕ) → drawn_of made ≡ drawn_of kept → Reached kept a b made
     → InScope (drawn_of made) (best (eqs_of made)) → Exceeds made v
@@ -131,10 +136,13 @@ exceeds_both kept made a b v e reached scope x =
     let shows = exceeds_shows kept made a b v e reached x in
     let tidy = made_tidy kept made a b e reached in
     let k = drawn_length kept in
-    let drawn = shows.0 in
-    (((best (eqs_of made), made_to kept made a b e reached (best (eqs_of made)) (best_solves made tidy), subst (λ (D : Drawn). InScope D (best (eqs_of made))) e scope),
-      (λ ρ s sc size. let small = size v (omega (arith, k, drawn)) in let large = shows.1 ρ s in omega (arith, small, large))),
-      shows)
+    let drawn = shows.0 in (
+      (
+        (best (eqs_of made), made_to kept made a b e reached (best (eqs_of made)) (best_solves made tidy), subst (λ (D : Drawn). InScope D (best (eqs_of made))) e scope),
+        (λ ρ s sc size. let small = size v (omega (arith, k, drawn)) in let large = shows.1 ρ s in omega (arith, small, large)),
+      ),
+      shows,
+    )
 
 -- a variable on its own
 pub above_other : (kept : List Variable) (term : TyNode) (v level : ℕ) → term ≡ t.Var v
@@ -150,8 +158,8 @@ pub above_both : (kept : List Variable) (term f x : TyNode) (level : ℕ) → te
     → (r : ℕ) → IsTrue (has r (mono term)) → IsTrue (is_rigid (drawn_of kept) r) → level_of (drawn_of kept) r ≤ level
 above_both kept term f x level e p q r m k =
     elim (true-either (has r (mono f)) (has r (mono x)) (sym (ap (has r) (ap mono e ∙ mono-App f x)) ∙ m)) [
-      inl h ↦ p r h k
-    | inr h ↦ q r h k
+      | inl h ↦ p r h k
+      | inr h ↦ q r h k
     ]
 
 -- a variable that is drawn later
@@ -173,14 +181,14 @@ stays_open kept v d h e r k m =
 
 pub at_entry : (kept : List Variable) (v : ℕ) (d d2 : Variable) (u : TyNode) (o : Option ℕ) → v < length kept → (get_or kept v d).term ≡ Some u
     → MatchOption o
-      ((r : ℕ) → IsTrue (has r (mono u)) → IsTrue (is_rigid (drawn_of kept) r) → level_of (drawn_of kept) r ≤ (get_or kept v d2).level)
-      (λ r. IsTrue (has r (mono u)) × IsTrue (is_rigid (drawn_of kept) r) × ((get_or kept v d2).level < level_of (drawn_of kept) r))
+    ((r : ℕ) → IsTrue (has r (mono u)) → IsTrue (is_rigid (drawn_of kept) r) → level_of (drawn_of kept) r ≤ (get_or kept v d2).level)
+    (λ r. IsTrue (has r (mono u)) × IsTrue (is_rigid (drawn_of kept) r) × ((get_or kept v d2).level < level_of (drawn_of kept) r))
     → MatchOption o (Stays kept v) (λ r. Leaves kept r v)
 at_entry kept v d d2 u None h e m =
     λ r k n.
-      let level = level_entry kept v d2 h in
-      let low = m r (sym (ap (has r) (best_entry kept v d (Some u) h e)) ∙ n) k in
-      omega (arith, level, low)
+    let level = level_entry kept v d2 h in
+    let low = m r (sym (ap (has r) (best_entry kept v d (Some u) h e)) ∙ n) k in
+    omega (arith, level, low)
 at_entry kept v d d2 u (Some r) h e m =
     let level = level_entry kept v d2 h in
     let high = m.2 in

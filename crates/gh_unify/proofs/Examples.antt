@@ -1,13 +1,11 @@
 -- Small cases of the definitions.
-use Rattle.std.proofs.Common.{◌≡◌, ℕ, ◌≤◌, ◌<◌, true, false, IsTrue, List, [], ◌∷◌, Option, Some, None, refl, arith}
+use Rattle.std.proofs.Common.{◌≡◌, ◌≤◌, true, false, List, [], ◌∷◌, Some, None, refl, arith}
 use Rattle.gh_base.specs.declared.place.TyCon.TheVariants.{Int, Char, Arrow}
-use Rattle.gh_typeterm.specs.declared.ty.TyNode.{TyNode}
 use Rattle.gh_typeterm.specs.declared.ty.TyNode.TheVariants as t
-use Rattle.gh_unify.specs.Types.{Mono, con, var, app, name, Val, inst, has, nodes, head_of, mono}
-use Rattle.gh_unify.specs.Types.Head.{an_app, a_var}
-use Rattle.gh_unify.specs.Kept.{Eqs, Drawn, drawn_of, level_of, is_rigid, eqs_of, Solves, InScope, InSize, IsMostGeneral}
-use Rattle.gh_unify.specs.Causes.{Forced, IsFixed, Differ}
-use Rattle.gh_unify.specs.Causes.Forced.{given, stated, same, turned, through, heads, args, applied}
+use Rattle.gh_unify.specs.Types.{Mono, con, var, app, name, Val, inst, has, nodes, head_of}
+use Rattle.gh_unify.specs.Kept.{Eqs, drawn_of, level_of, is_rigid, eqs_of, InScope}
+use Rattle.gh_unify.specs.Causes.{Forced}
+use Rattle.gh_unify.specs.Causes.Forced.{given, heads, args}
 use Rattle.gh_unify.specs.Tables.{best}
 use Rattle.gh_unify.specs.declared.table.Variable.{Variable}
 

@@ -1,18 +1,18 @@
 -- The loop that solves one equation.
-use Rattle.std.proofs.Common.{◌≡◌, ℕ, ◌<◌, ◌≤◌, Bool, true, false, cond, eqb, ◌||◌, IsTrue, List, length, get_or, Option, Some, None, Result, Ok, Err, refl, sym, ap, ◌∙◌, subst, inl, inr, ◌⊎◌, arith}
+use Rattle.std.proofs.Common.{◌≡◌, ℕ, ◌<◌, List, length, Option, Some, None, Result, Ok, Err, refl, sym, ap, ◌∙◌, subst, inl, inr, arith}
 use Rattle.std.specs.Prelude.{MatchOption, MatchResult}
 use Rattle.gh_typeterm.specs.declared.ty.TyNode.{TyNode}
-use Rattle.gh_unify.specs.Types.{Mono, con, var, app, name, Val, inst, has, nodes, head_of, mono}
-use Rattle.gh_unify.specs.Kept.{AreDrawn, Eqs, Drawn, is_rigid, drawn_of, eqs_of, Solves, IsSolution, SolvesBoth, InScope, InSize, level_of}
-use Rattle.gh_unify.specs.Causes.{Forced, IsFixed, Differ, IsLarger, Shows, HasNone, Lacks}
+use Rattle.gh_unify.specs.Types.{Mono, var, app, inst, has, mono}
+use Rattle.gh_unify.specs.Kept.{AreDrawn, Eqs, Drawn, is_rigid, drawn_of, eqs_of}
+use Rattle.gh_unify.specs.Causes.{Forced, IsFixed, Differ}
 use Rattle.gh_unify.specs.Causes.Forced.{given, stated, same, turned, through, heads, args, applied}
-use Rattle.gh_unify.specs.Tables.{best, value_of, with_solved, open_in}
-use Rattle.gh_unify.specs.Steps.{IsFree, AreFree, IsTidy, Differs, Sides, IsBound, Reaches, Solved, Reached, Refused, Blocked, Goes}
+use Rattle.gh_unify.specs.Tables.{best, value_of, open_in}
+use Rattle.gh_unify.specs.Steps.{IsFree, AreFree, IsTidy, Differs, Sides, IsBound, Reaches, Reached, Refused, Blocked, Goes}
 use Rattle.gh_unify.specs.declared.table.Variable.{Variable}
 use Rattle.gh_unify.specs.declared.unifier.UnifyFault.{UnifyFault}
 use Rattle.gh_unify.specs.declared.unifier.UnifyFault.TheVariants.{Clash, Occurs, Escapes, TooLarge, NoMemory}
 use Rattle.gh_unify.proofs.Insts.{eqb-same}
-use Rattle.gh_unify.proofs.Solved.{put, first_reaches, next_reaches, last_reaches, forced_inst, read_free, factors_all, is_best}
+use Rattle.gh_unify.proofs.Solved.{put, first_reaches, next_reaches, last_reaches, forced_inst, read_free, factors_all}
 use Rattle.gh_unify.proofs.Tables.{drawn_length, drawn_solved, eqs_solved, open_solved}
 
 pub goes_first : (table : List Variable) (left right : TyNode) → IsTidy (eqs_of table) (drawn_of table) → AreFree table left → AreFree table right
@@ -42,15 +42,17 @@ SideFacts table kept left right v u =
 side_facts : (table kept : List Variable) (left right a b x y : TyNode) (v : ℕ) (u : TyNode)
     → Goes table kept left right a b → Differs (mono a) (mono b) (mono x) (mono y) → Sides x y v u → SideFacts table kept left right v u
 side_facts table kept left right a b x y v u g d (inl s) =
-    let f = d.forced (eqs_of table) (mono left) (mono right) g.reaches.given in
-    ((g.reaches.left v (d.left v (ap (has v) s.0 ∙ eqb-same v))).0,
+    let f = d.forced (eqs_of table) (mono left) (mono right) g.reaches.given in (
+      (g.reaches.left v (d.left v (ap (has v) s.0 ∙ eqb-same v))).0,
       subst (IsFree (eqs_of kept) (drawn_of table)) s.1 (λ w m. g.reaches.right w (d.right w m)),
-      subst (λ z. Forced (eqs_of table) (mono left) (mono right) z (mono u)) s.0 (subst (Forced (eqs_of table) (mono left) (mono right) (mono x)) s.1 f))
+      subst (λ z. Forced (eqs_of table) (mono left) (mono right) z (mono u)) s.0 (subst (Forced (eqs_of table) (mono left) (mono right) (mono x)) s.1 f),
+    )
 side_facts table kept left right a b x y v u g d (inr s) =
-    let f = turned (mono x) (mono y) (d.forced (eqs_of table) (mono left) (mono right) g.reaches.given) in
-    ((g.reaches.right v (d.right v (ap (has v) s.0 ∙ eqb-same v))).0,
+    let f = turned (mono x) (mono y) (d.forced (eqs_of table) (mono left) (mono right) g.reaches.given) in (
+      (g.reaches.right v (d.right v (ap (has v) s.0 ∙ eqb-same v))).0,
       subst (IsFree (eqs_of kept) (drawn_of table)) s.1 (λ w m. g.reaches.left w (d.left w m)),
-      subst (λ z. Forced (eqs_of table) (mono left) (mono right) z (mono u)) s.0 (subst (Forced (eqs_of table) (mono left) (mono right) (mono y)) s.1 f))
+      subst (λ z. Forced (eqs_of table) (mono left) (mono right) z (mono u)) s.0 (subst (Forced (eqs_of table) (mono left) (mono right) (mono y)) s.1 f),
+    )
 
 -- the variables of the equation are drawn in the new table too
 pub made_left : (table kept made : List Variable) (left right a b x y : TyNode) → Goes table kept left right a b → IsBound kept x y made → AreDrawn made a
@@ -74,7 +76,7 @@ goes_next table kept made left right a b x y a' b' g d h ea eb =
     record {
       drawn = ap drawn_of h.6 ∙ drawn_solved kept v u ∙ g.drawn;
       reaches = subst P (sym e)
-        (next_reaches (eqs_of table) D (mono left) (mono right) (eqs_of kept) (mono a) (mono b) v (mono u) (mono a') (mono b') g.reaches
+          (next_reaches (eqs_of table) D (mono left) (mono right) (eqs_of kept) (mono a) (mono b) v (mono u) (mono a') (mono b') g.reaches
           f.1 h.5 (ap (λ (z : Drawn). is_rigid z v) (sym g.drawn) ∙ h.4) f.0 f.2
           (ea ∙ ap (λ E. inst (best E) (mono a)) e) (eb ∙ ap (λ E. inst (best E) (mono b)) e));
     }
@@ -98,7 +100,7 @@ goes_refused (Clash l r) table kept left right a b x y g d h =
     let f = d.forced (eqs_of table) (mono left) (mono right) g.reaches.given in
     let P : TyNode → TyNode → Type 0 = λ p q. Forced (eqs_of table) (mono left) (mono right) (mono p) (mono q) × Differ (drawn_of table) (mono p) (mono q) in
     subst (λ p. P p r) (sym h.0) (subst (P x) (sym h.1)
-      (f, (fixed_in (drawn_of kept) (drawn_of table) (mono x) g.drawn h.2, fixed_in (drawn_of kept) (drawn_of table) (mono y) g.drawn h.3, d.heads)))
+    (f, (fixed_in (drawn_of kept) (drawn_of table) (mono x) g.drawn h.2, fixed_in (drawn_of kept) (drawn_of table) (mono y) g.drawn h.3, d.heads)))
 goes_refused (Occurs v t) table kept left right a b x y g d h =
     ((side_facts table kept left right a b x y v t g d h.0).2, h.1, h.2)
 goes_refused (Escapes r v) table kept left right a b x y g d h = h
@@ -123,8 +125,8 @@ forced_best E a b v (Some t) e = stated v t e
 read_forced : (E : Eqs) (a b a' b' : Mono) → a' ≡ inst (best E) a → b' ≡ inst (best E) b → Forced E a b a' b'
 read_forced E a b a' b' ea eb =
     subst (λ z. Forced E a b z b') (sym ea) (subst (λ z. Forced E a b (inst (best E) a) z) (sym eb)
-      (through (inst (best E) a) a (inst (best E) b) (turned a (inst (best E) a) (forced_inst E a b (best E) a (λ v. forced_best E a b v (E v) refl)))
-        (through a b (inst (best E) b) given (forced_inst E a b (best E) b (λ v. forced_best E a b v (E v) refl)))))
+    (through (inst (best E) a) a (inst (best E) b) (turned a (inst (best E) a) (forced_inst E a b (best E) a (λ v. forced_best E a b v (E v) refl)))
+    (through a b (inst (best E) b) given (forced_inst E a b (best E) b (λ v. forced_best E a b v (E v) refl)))))
 
 pub read_reached : (table made end : List Variable) (a b left right : TyNode) → IsTidy (eqs_of table) (drawn_of table) → made ≡ table
     → mono left ≡ inst (best (eqs_of table)) (mono a) → mono right ≡ inst (best (eqs_of table)) (mono b)
@@ -138,8 +140,8 @@ read_reached table made end a b left right tidy em ea eb reached =
       tidy = r.tidy;
       kept = λ v t e. forced_from E (mono a) (mono b) (mono left) (mono right) (var v) t f (r.kept v t e);
       back = λ ρ s.
-        let k = r.back ρ s in
-        (k.0, sym (factors_all E D ρ tidy k.0 (mono a)) ∙ ap (inst ρ) (sym ea) ∙ k.1 ∙ ap (inst ρ) eb ∙ factors_all E D ρ tidy k.0 (mono b));
+          let k = r.back ρ s in
+          (k.0, sym (factors_all E D ρ tidy k.0 (mono a)) ∙ ap (inst ρ) (sym ea) ∙ k.1 ∙ ap (inst ρ) eb ∙ factors_all E D ρ tidy k.0 (mono b));
     }
 
 blocked_from : (fault : UnifyFault) (table : List Variable) (a b left right : TyNode) → Forced (eqs_of table) (mono a) (mono b) (mono left) (mono right)
@@ -155,14 +157,14 @@ pub read_blocked : (fault : UnifyFault) (table made : List Variable) (a b left r
     → Blocked fault made left right → Blocked fault table a b
 read_blocked fault table made a b left right em ea eb h =
     blocked_from fault table a b left right (read_forced (eqs_of table) (mono a) (mono b) (mono left) (mono right) ea eb)
-      (subst (λ m. Blocked fault m left right) em h)
+    (subst (λ m. Blocked fault m left right) em h)
 
 pub read_are_free : (table made : List Variable) (a left : TyNode) → IsTidy (eqs_of table) (drawn_of table) → AreDrawn table a → made ≡ table
     → mono left ≡ inst (best (eqs_of table)) (mono a) → AreFree made left
 read_are_free table made a left tidy h em e =
     let k = drawn_length table in
     subst (λ m. AreFree m left) (sym em) (subst (IsFree (eqs_of table) (drawn_of table)) (sym e)
-      (read_free (eqs_of table) (drawn_of table) (mono a) tidy (λ v m. let z = h v m in omega (arith, k, z))))
+    (read_free (eqs_of table) (drawn_of table) (mono a) tidy (λ v m. let z = h v m in omega (arith, k, z))))
 
 pub found_pair : (o : Option (TyNode × TyNode)) (a b x y : TyNode) → o ≡ Some (x, y) → MatchOption o (mono a ≡ mono b) (λ p. Differs (mono a) (mono b) (mono p.0) (mono p.1))
     → Differs (mono a) (mono b) (mono x) (mono y)

@@ -53,8 +53,8 @@ has-inst σ (con c) w v h m = cc
 has-inst σ (var u) w v h m = let e = eqb-is w u h in rw e at m
 has-inst σ (app f a) w v h m =
     elim (true-either (has w f) (has w a) h) [
-      inl k ↦ true-left (has v (inst σ f)) (has v (inst σ a)) (has-inst σ f w v k m)
-    | inr k ↦ true-right (has v (inst σ f)) (has v (inst σ a)) (has-inst σ a w v k m)
+      | inl k ↦ true-left (has v (inst σ f)) (has v (inst σ a)) (has-inst σ f w v k m)
+      | inr k ↦ true-right (has v (inst σ f)) (has v (inst σ a)) (has-inst σ a w v k m)
     ]
 has-inst σ (name n) w v h m = cc
 
@@ -64,8 +64,8 @@ inst-has σ (con c) v h = cc
 inst-has σ (var u) v h = (u, eqb-same u, h)
 inst-has σ (app f a) v h =
     elim (true-either (has v (inst σ f)) (has v (inst σ a)) h) [
-      inl k ↦ let r = inst-has σ f v k in (r.0, true-left (has r.0 f) (has r.0 a) r.1, r.2)
-    | inr k ↦ let r = inst-has σ a v k in (r.0, true-right (has r.0 f) (has r.0 a) r.1, r.2)
+      | inl k ↦ let r = inst-has σ f v k in (r.0, true-left (has r.0 f) (has r.0 a) r.1, r.2)
+      | inr k ↦ let r = inst-has σ a v k in (r.0, true-right (has r.0 f) (has r.0 a) r.1, r.2)
     ]
 inst-has σ (name n) v h = cc
 
@@ -75,8 +75,8 @@ nodes-part ρ (con c) v h = cc
 nodes-part ρ (var w) v h = let e = eqb-is v w h in let e2 : nodes (ρ v) ≡ nodes (ρ w) = ap (λ u. nodes (ρ u)) e in omega arith
 nodes-part ρ (app f a) v h =
     elim (true-either (has v f) (has v a) h) [
-      inl k ↦ let l : nodes (ρ v) ≤ nodes (inst ρ f) = nodes-part ρ f v k in omega arith
-    | inr k ↦ let l : nodes (ρ v) ≤ nodes (inst ρ a) = nodes-part ρ a v k in omega arith
+      | inl k ↦ let l : nodes (ρ v) ≤ nodes (inst ρ f) = nodes-part ρ f v k in omega arith
+      | inr k ↦ let l : nodes (ρ v) ≤ nodes (inst ρ a) = nodes-part ρ a v k in omega arith
     ]
 nodes-part ρ (name n) v h = cc
 
@@ -106,8 +106,8 @@ no_cycle ρ (var w) v h n e = n tt
 no_cycle ρ (app f a) v h n e =
     let s : nodes (ρ v) ≡ suc (nodes (inst ρ f) + nodes (inst ρ a)) = ap nodes e in
     elim (true-either (has v f) (has v a) h) [
-      inl k ↦ let l : nodes (ρ v) ≤ nodes (inst ρ f) = nodes-part ρ f v k in omega arith
-    | inr k ↦ let l : nodes (ρ v) ≤ nodes (inst ρ a) = nodes-part ρ a v k in omega arith
+      | inl k ↦ let l : nodes (ρ v) ≤ nodes (inst ρ f) = nodes-part ρ f v k in omega arith
+      | inr k ↦ let l : nodes (ρ v) ≤ nodes (inst ρ a) = nodes-part ρ a v k in omega arith
     ]
 no_cycle ρ (name n) v h n2 e = cc
 

@@ -1,11 +1,11 @@
 -- Type terms of the program as plain trees.
-use Rattle.std.proofs.Common.{◌≡◌, ℕ, suc, ◌+◌, ◌≤◌, ◌<◌, Bool, true, false, eqb, ◌||◌, IsTrue, List, [], ◌∷◌, length, Option, Some, None, refl, sym, ap, ◌∙◌, subst, arith, cond, if◌then◌else◌, ◌==◌, unwrap_or}
+use Rattle.std.proofs.Common.{◌≡◌, ℕ, suc, ◌+◌, ◌<◌, Bool, true, false, eqb, List, [], ◌∷◌, length, Some, None, refl, sym, ap, ◌∙◌, subst, arith, cond, if◌then◌else◌, unwrap_or}
 use Rattle.gh_base.specs.declared.place.TyCon.{TyCon}
 use Rattle.gh_typeterm.specs.declared.ty.TyNode.{TyNode}
 use Rattle.gh_typeterm.specs.declared.ty.TyNode.TheVariants as t
-use Rattle.gh_typeterm.specs.Terms.{size_of, size_step, substituted, substituted_step, image_of, listed}
-use Rattle.gh_typeterm.proofs.Folds.{fold-Con, fold-Var, fold-App, fold-Name, term_induction, term_cases}
-use Rattle.gh_unify.specs.Types.{Mono, con, var, app, name, Val, inst, has, nodes, mono, mono_step, head_of}
+use Rattle.gh_typeterm.specs.Terms.{size_of, size_step, substituted, substituted_step, image_of}
+use Rattle.gh_typeterm.proofs.Folds.{fold-Con, fold-Var, fold-App, fold-Name, term_induction}
+use Rattle.gh_unify.specs.Types.{Mono, con, var, app, name, inst, has, nodes, mono, mono_step}
 use Rattle.gh_unify.specs.Kept.{AreDrawn}
 use Rattle.gh_unify.specs.declared.table.Variable.{Variable}
 use Rattle.gh_unify.proofs.Insts.{eqb-same, eqb-is, true-left, true-right, sub, inst-agree}
@@ -28,7 +28,7 @@ mono-substituted by = term_induction (λ u. mono (substituted by u) ≡ inst (λ
     (λ c. ap mono (fold-Con TyNode (substituted_step by) c) ∙ mono-Con c ∙ sym (ap (inst (λ v. mono (image_of by v))) (mono-Con c)))
     (λ v. ap mono (fold-Var TyNode (substituted_step by) v) ∙ sym (ap (inst (λ v. mono (image_of by v))) (mono-Var v)))
     (λ f x p q. ap mono (fold-App TyNode (substituted_step by) f x) ∙ mono-App (substituted by f) (substituted by x)
-      ∙ (λ i. app (p i) (q i)) ∙ sym (ap (inst (λ v. mono (image_of by v))) (mono-App f x)))
+    ∙ (λ i. app (p i) (q i)) ∙ sym (ap (inst (λ v. mono (image_of by v))) (mono-App f x)))
     (λ n. ap mono (fold-Name TyNode (substituted_step by) n) ∙ mono-Name n ∙ sym (ap (inst (λ v. mono (image_of by v))) (mono-Name n)))
 
 one_image : (b c : Bool) (u : TyNode) (w : ℕ) → b ≡ c → mono (unwrap_or (if b then Some u else None) (t.Var w)) ≡ cond c (mono u) (var w)
@@ -48,7 +48,7 @@ pub mono-replaced : (v : ℕ) (u term : TyNode) → mono (substituted ((v, u) �
 mono-replaced v u term =
     mono-substituted ((v, u) ∷ []) term
     ∙ inst-agree (λ w. mono (image_of ((v, u) ∷ []) w)) (sub v (mono u)) (mono term)
-      (λ w h. one_image (eqb v w) (eqb w v) u w (same_test (eqb v w) (eqb w v) v w refl refl))
+    (λ w h. one_image (eqb v w) (eqb w v) u w (same_test (eqb v w) (eqb w v) v w refl refl))
 
 pub nodes-mono : (term : TyNode) → size_of term ≡ nodes (mono term)
 nodes-mono = term_induction (λ u. size_of u ≡ nodes (mono u))

@@ -1,12 +1,12 @@
 -- One more variable solved.
-use Rattle.std.proofs.Common.{◌≡◌, ℕ, ◌<◌, Bool, true, false, cond, eqb, IsTrue, List, length, Option, Some, None, refl, sym, ap, ◌∙◌, subst, inl, inr, ◌⊎◌}
-use Rattle.gh_unify.specs.Types.{Mono, con, var, app, name, Val, inst, has, head_of}
+use Rattle.std.proofs.Common.{◌≡◌, ℕ, ◌<◌, Bool, true, false, cond, eqb, IsTrue, length, Option, Some, None, refl, sym, ap, ◌∙◌, subst, inl, inr, ◌⊎◌}
+use Rattle.gh_unify.specs.Types.{Mono, con, var, app, name, Val, inst, has}
 use Rattle.gh_unify.specs.Kept.{Eqs, Drawn, is_rigid, Solves, IsMostGeneral}
 use Rattle.gh_unify.specs.Causes.{Forced}
 use Rattle.gh_unify.specs.Causes.Forced.{given, stated, same, turned, through, heads, args, applied}
 use Rattle.gh_unify.specs.Tables.{value_of, best}
 use Rattle.gh_unify.specs.Steps.{IsFree, IsTidy, Reaches, Solved}
-use Rattle.gh_unify.proofs.Insts.{sub, inst-sub, inst-has, inst-agree, inst-var, inst-inst, sub-other, eqb-is, eqb-same, not-both}
+use Rattle.gh_unify.proofs.Insts.{sub, inst-sub, inst-has, inst-agree, inst-var, inst-inst, eqb-is, eqb-same, not-both}
 
 -- what is forced holds in every solution
 pub forced_holds : (E : Eqs) (D : Drawn) (a b s t : Mono) (ρ : Val) → Solves E D ρ → inst ρ a ≡ inst ρ b → Forced E a b s t → inst ρ s ≡ inst ρ t
@@ -121,9 +121,9 @@ some_none o t e n = cc
 pub put_fewer : (E : Eqs) (D : Drawn) (v : ℕ) (t : Mono) (ρ : Val) → E v ≡ None → Solves (put E v t) D ρ → Solves E D ρ
 put_fewer E D v t ρ n s = record {
   equal = λ u r e.
-    let off : u ≡ v → ⊥ = λ i. some_none (E v) r (ap E (sym i) ∙ e) n in
-    let k : put E v t u ≡ Some (inst (sub v t) r) = put_other E v u t (Some (inst (sub v t) r)) off (ap (inst_in (sub v t)) e) in
-    s.equal u (inst (sub v t) r) k ∙ inst-sub ρ v t r (put_value E D v t ρ s);
+      let off : u ≡ v → ⊥ = λ i. some_none (E v) r (ap E (sym i) ∙ e) n in
+      let k : put E v t u ≡ Some (inst (sub v t) r) = put_other E v u t (Some (inst (sub v t) r)) off (ap (inst_in (sub v t)) e) in
+      s.equal u (inst (sub v t) r) k ∙ inst-sub ρ v t r (put_value E D v t ρ s);
   rigid = s.rigid;
 }
 
@@ -132,9 +132,10 @@ sub_free : (b : Bool) (E : Eqs) (D : Drawn) (v w u : ℕ) (t : Mono) → IsFree 
     → eqb w v ≡ b → IsTrue (has u (cond b t (var w))) → ((E u ≡ None) × (u < length D)) × (u ≡ v → ⊥)
 sub_free true E D v w u t free apart h e m = (free u m, λ i. not-both (has v t) apart (ap (λ x. has x t) (sym i) ∙ m))
 sub_free false E D v w u t free apart h e m =
-    let i : u ≡ w = eqb-is u w m in
-    ((ap E i ∙ h.0, subst (λ x. x < length D) (sym i) h.1),
-      λ j. let k : w ≡ v = sym i ∙ j in not-both (eqb w v) e (ap (λ x. eqb x v) k ∙ eqb-same v))
+    let i : u ≡ w = eqb-is u w m in (
+      (ap E i ∙ h.0, subst (λ x. x < length D) (sym i) h.1),
+      λ j. let k : w ≡ v = sym i ∙ j in not-both (eqb w v) e (ap (λ x. eqb x v) k ∙ eqb-same v),
+    )
 
 open_there : (E : Eqs) (D : Drawn) (v u : ℕ) (t : Mono) → ((E u ≡ None) × (u < length D)) × (u ≡ v → ⊥) → (put E v t u ≡ None) × (u < length D)
 open_there E D v u t h = (put_other E v u t None h.1 (in_None (sub v t) (E u) h.0.0), h.0.1)
@@ -151,9 +152,9 @@ free_other E D v t free apart u m =
 pub put_tidy : (E : Eqs) (D : Drawn) (v : ℕ) (t : Mono) → IsTidy E D → IsFree E D t → has v t ≡ false → is_rigid D v ≡ false → IsTidy (put E v t) D
 put_tidy E D v t tidy free apart loose = record {
   resolved = λ u s e. elim (put_cases (eqb u v) E v u t s e refl) [
-      inl p ↦ subst (IsFree (put E v t) D) (sym p.1) (free_other E D v t free apart)
+    | inl p ↦ subst (IsFree (put E v t) D) (sym p.1) (free_other E D v t free apart)
     | inr p ↦ subst (IsFree (put E v t) D) (sym p.2) (free_inst E D v t p.0 free apart (tidy.resolved u p.0 p.1))
-    ];
+  ];
   rigid = λ u r. put_other E v u t None (λ i. not-both (is_rigid D v) loose (ap (is_rigid D) (sym i) ∙ r)) (in_None (sub v t) (E u) (tidy.rigid u r));
 }
 
@@ -170,21 +171,21 @@ next_reaches E0 D a0 b0 E a b v t a' b' r free apart loose unsolved forced ea eb
     let E' : Eqs = put E v t in
     let tidy : IsTidy E' D = put_tidy E D v t r.tidy free apart loose in
     let kept : (u : ℕ) (s : Mono) → E' u ≡ Some s → Forced E0 a0 b0 (var u) s =
-      λ u s e. elim (put_cases (eqb u v) E v u t s e refl) [
-        inl p ↦ subst (λ x. Forced E0 a0 b0 (var u) x) (sym p.1) (subst (λ x. Forced E0 a0 b0 (var x) t) (sym p.0) forced)
+    λ u s e. elim (put_cases (eqb u v) E v u t s e refl) [
+      | inl p ↦ subst (λ x. Forced E0 a0 b0 (var u) x) (sym p.1) (subst (λ x. Forced E0 a0 b0 (var x) t) (sym p.0) forced)
       | inr p ↦ subst (λ x. Forced E0 a0 b0 (var u) x) (sym p.2)
           (through (var u) p.0 (inst (sub v t) p.0) (r.kept u p.0 p.1)
-            (forced_inst E0 a0 b0 (sub v t) p.0 (λ w. sub_forced (eqb w v) E0 a0 b0 v w t forced refl)))
-      ] in
+          (forced_inst E0 a0 b0 (sub v t) p.0 (λ w. sub_forced (eqb w v) E0 a0 b0 v w t forced refl)))
+    ] in
     let at : (s : Mono) → Forced E0 a0 b0 s (inst (best E') s) = λ s. forced_inst E0 a0 b0 (best E') s (λ w. best_forced E0 a0 b0 w (E' w) (kept w)) in
     record {
       tidy = tidy;
       kept = kept;
       given = subst (λ x. Forced E0 a0 b0 x b') (sym ea) (subst (λ x. Forced E0 a0 b0 (inst (best E') a) x) (sym eb)
-        (through (inst (best E') a) a (inst (best E') b) (turned a (inst (best E') a) (at a)) (through a b (inst (best E') b) r.given (at b))));
+          (through (inst (best E') a) a (inst (best E') b) (turned a (inst (best E') a) (at a)) (through a b (inst (best E') b) r.given (at b))));
       back = λ ρ s e.
-        let old : Solves E D ρ = put_fewer E D v t ρ unsolved s in
-        r.back ρ old (sym (factors_all E' D ρ tidy s a) ∙ ap (inst ρ) (sym ea) ∙ e ∙ ap (inst ρ) eb ∙ factors_all E' D ρ tidy s b);
+          let old : Solves E D ρ = put_fewer E D v t ρ unsolved s in
+          r.back ρ old (sym (factors_all E' D ρ tidy s a) ∙ ap (inst ρ) (sym ea) ∙ e ∙ ap (inst ρ) eb ∙ factors_all E' D ρ tidy s b);
       left = subst (IsFree E' D) (sym ea) (read_free E' D a tidy (λ u m. (r.left u m).1));
       right = subst (IsFree E' D) (sym eb) (read_free E' D b tidy (λ u m. (r.right u m).1));
     }

@@ -1,24 +1,21 @@
 -- The steps of the work on one equation.
-use Rattle.std.proofs.Common.{◌≡◌, ℕ, ◌<◌, ◌≤◌, Bool, true, false, cond, eqb, ◌||◌, IsTrue, List, length, get_or, Option, Some, None, refl, sym, ap, ◌∙◌, subst, inl, inr, ◌⊎◌, arith}
+use Rattle.std.proofs.Common.{◌≡◌, ℕ, ◌<◌, true, List, length, get_or, Option, Some, None, sym, ap, ◌∙◌, subst}
 use Rattle.std.specs.Prelude.{MatchOption}
 use Rattle.gh_typeterm.specs.declared.ty.TyNode.{TyNode}
 use Rattle.gh_typeterm.specs.declared.ty.TyNode.TheVariants as t
-use Rattle.gh_unify.specs.Types.{Mono, con, var, app, name, Val, inst, has, nodes, head_of, mono}
-use Rattle.gh_unify.specs.Types.Head.{a_con, a_var, an_app, a_name}
-use Rattle.gh_unify.specs.Kept.{AreDrawn, Eqs, Drawn, is_rigid, drawn_of, eqs_of, Solves, IsSolution, SolvesBoth, InScope, InSize, level_of}
-use Rattle.gh_unify.specs.Causes.{Forced, IsFixed, Differ, IsLarger, Shows, HasNone, Lacks}
+use Rattle.gh_unify.specs.Types.{Mono, app, has, head_of, mono}
+use Rattle.gh_unify.specs.Kept.{drawn_of}
+use Rattle.gh_unify.specs.Causes.{Forced, IsFixed}
 use Rattle.gh_unify.specs.Causes.Forced.{heads, args}
-use Rattle.gh_unify.specs.Tables.{best, with_solved}
-use Rattle.gh_unify.specs.Steps.{IsFree, AreFree, IsTidy, Differs, Sides, IsBound, Reaches, Solved, Reached, Refused, Blocked}
+use Rattle.gh_unify.specs.Steps.{Differs}
 use Rattle.gh_unify.specs.declared.table.Variable.{Variable}
-use Rattle.gh_unify.proofs.Insts.{true-left, true-right, eqb-same, no_cycle, IsVar}
-use Rattle.gh_unify.proofs.Solved.{forced_holds}
-use Rattle.gh_unify.proofs.Reading.{mono-Con, mono-Var, mono-App, mono-Name}
-use Rattle.gh_unify.proofs.Tables.{rigid_entry, drawn_length}
+use Rattle.gh_unify.proofs.Insts.{true-left, true-right}
+use Rattle.gh_unify.proofs.Reading.{mono-Var}
+use Rattle.gh_unify.proofs.Tables.{rigid_entry}
 
 -- parts that differ
 pub differs_here : (a b : Mono) → (head_of a ≡ head_of b → ⊥) → Differs a b a b
-differs_here a b h = record { heads = h; forced = λ E s t f. f; left = λ v m. m; right = λ v m. m; }
+differs_here a b h = record { heads = h; forced = λ E s t f. f; left = λ v m. m; right = λ v m. m }
 
 pub differs_left : (a b f x g y p q : Mono) → a ≡ app f x → b ≡ app g y → Differs f g p q → Differs a b p q
 differs_left a b f x g y p q ea eb d = record {

@@ -1,12 +1,12 @@
 -- Tables of variables, entry by entry.
-use Rattle.std.proofs.Common.{◌≡◌, ℕ, zero, suc, ◌+◌, ◌≤◌, ◌<◌, Bool, true, false, cond, eqb, IsTrue, List, [], ◌∷◌, ◌++◌, map, length, get_or, take, take_all, Option, Some, None, refl, sym, ap, ◌∙◌, arith}
+use Rattle.std.proofs.Common.{◌≡◌, ℕ, zero, suc, ◌+◌, ◌≤◌, ◌<◌, cond, eqb, List, [], ◌∷◌, ◌++◌, map, length, get_or, take, take_all, Option, Some, None, refl, sym, ap, ◌∙◌, arith}
 use Rattle.std.specs.Prelude.{slice_get, slice_set, option_map}
 use Rattle.std.proofs.lemmas.Option.{slice_get-map, slice_get-get_or}
 use Rattle.std.proofs.Math.Dec.{eqb-suc-zero, eqb-zero-suc, eqb-suc-suc}
 use Rattle.gh_typeterm.specs.declared.ty.TyNode.{TyNode}
 use Rattle.gh_typeterm.specs.declared.ty.TyNode.TheVariants as t
-use Rattle.gh_unify.specs.Types.{Mono, var, mono, inst, has, Val}
-use Rattle.gh_unify.specs.Kept.{Eqs, Drawn, drawn_of, level_at, rigid_at, level_of, is_rigid, type_in, type_at, eqs_of}
+use Rattle.gh_unify.specs.Types.{mono, inst}
+use Rattle.gh_unify.specs.Kept.{drawn_of, level_at, rigid_at, level_of, is_rigid, type_in, type_at, eqs_of}
 use Rattle.gh_unify.specs.Tables.{term_replaced, replaced, term_put, put_at, with_solved, best, value_of, open_at, open_in}
 use Rattle.gh_unify.specs.declared.table.Variable.{Variable}
 use Rattle.gh_unify.proofs.Insts.{sub}
@@ -101,7 +101,7 @@ pub open_solved : (kept : List Variable) (v : ℕ) (u : TyNode) → v < length k
 open_solved kept v u h e =
     let k = length_map v u kept in
     let p : open_in (put_at (map (replaced ((v, u) ∷ [])) kept) v u) < open_in (map (replaced ((v, u) ∷ [])) kept)
-      = open_put (map (replaced ((v, u) ∷ [])) kept) v u (omega arith) (none_map v u kept e) in
+    = open_put (map (replaced ((v, u) ∷ [])) kept) v u (omega arith) (none_map v u kept e) in
     let q = open_map v u kept in omega arith
 
 some_same : {x y : Variable} → Some x ≡ Some y → x ≡ y
@@ -119,7 +119,7 @@ pub solved_made : (kept made : List Variable) (by : List (ℕ × TyNode)) (v : �
     → slice_set made v (record { level = (get_or kept v d).level; rigid = (get_or kept v d2).rigid; term = Some r }) ≡ with_solved kept v u
 solved_made kept made by v u s r d d2 i h past e be se re =
     let all : made ≡ map (replaced ((v, u) ∷ [])) kept =
-      e ∙ ap (λ ks. map (replaced by) ks) (take_all i kept past) ∙ ap (λ b. map (replaced b) kept) (be ∙ ap (λ z. (v, z) ∷ []) se) in
+    e ∙ ap (λ ks. map (replaced by) ks) (take_all i kept past) ∙ ap (λ b. map (replaced b) kept) (be ∙ ap (λ z. (v, z) ∷ []) se) in
     let x : Variable = get_or kept v d in
     let same : x ≡ get_or kept v d2 = some_same (sym (entry kept v d h) ∙ entry kept v d2 h) in
     let z : Variable = replaced ((v, u) ∷ []) x in
@@ -128,4 +128,4 @@ solved_made kept made by v u s r d d2 i h past e be se re =
     ∙ ap (λ w. slice_set (map (replaced ((v, u) ∷ [])) kept) v (record { level = x.level; rigid = w.rigid; term = Some r })) (sym same)
     ∙ ap (λ w. slice_set (map (replaced ((v, u) ∷ [])) kept) v (record { level = x.level; rigid = x.rigid; term = Some w })) re
     ∙ put_set (map (replaced ((v, u) ∷ [])) kept) v u z (omega arith)
-      (slice_get-map (replaced ((v, u) ∷ [])) kept v ∙ ap (option_map (replaced ((v, u) ∷ []))) (entry kept v d h))
+    (slice_get-map (replaced ((v, u) ∷ [])) kept v ∙ ap (option_map (replaced ((v, u) ∷ []))) (entry kept v d h))

@@ -1,9 +1,8 @@
 -- Why an equation is refused.
-use Rattle.std.specs.Prelude.{◌≡◌, ℕ, ◌<◌, ◌≤◌, Bool, IsTrue, List, length, Option, Some, None}
-use Rattle.gh_base.specs.declared.place.TyCon.{TyCon}
+use Rattle.std.specs.Prelude.{◌≡◌, ℕ, ◌<◌, IsTrue, List, length, Some}
 use Rattle.gh_typeterm.specs.declared.ty.TyNode.{TyNode}
-use Rattle.gh_unify.specs.Types.{Mono, con, var, app, name, Val, inst, has, nodes, Head, head_of, mono}
-use Rattle.gh_unify.specs.Kept.{Eqs, Drawn, is_rigid, level_of, drawn_of, eqs_of, IsSolution, SolvesBoth, InScope, InSize}
+use Rattle.gh_unify.specs.Types.{Mono, con, var, app, name, Val, has, nodes, Head, head_of, mono}
+use Rattle.gh_unify.specs.Kept.{Eqs, Drawn, is_rigid, level_of, drawn_of, eqs_of, SolvesBoth, InScope, InSize}
 use Rattle.gh_unify.specs.declared.table.Variable.{Variable}
 use Rattle.gh_unify.specs.declared.unifier.UnifyFault.{UnifyFault}
 use Rattle.gh_unify.specs.declared.unifier.UnifyFault.TheVariants.{Clash, Occurs, Escapes, TooLarge, NoMemory}

@@ -1,8 +1,8 @@
 -- The work on one equation, step by step.
-use Rattle.std.specs.Prelude.{◌≡◌, ℕ, ◌<◌, ◌≤◌, ◌^◌, Bool, true, false, IsTrue, List, length, Option, Some, None, ◌⊎◌}
+use Rattle.std.specs.Prelude.{◌≡◌, ℕ, ◌<◌, ◌≤◌, ◌^◌, false, IsTrue, List, length, Some, None, ◌⊎◌}
 use Rattle.gh_typeterm.specs.declared.ty.TyNode.{TyNode}
 use Rattle.gh_unify.specs.Types.{Mono, var, Val, inst, has, nodes, head_of, mono}
-use Rattle.gh_unify.specs.Kept.{Eqs, Drawn, is_rigid, level_of, drawn_of, eqs_of, Solves, SolvesBoth, IsSolution, InScope, InSize}
+use Rattle.gh_unify.specs.Kept.{Eqs, Drawn, is_rigid, level_of, drawn_of, eqs_of, Solves, InScope, InSize}
 use Rattle.gh_unify.specs.Causes.{Forced, IsFixed, Shows, IsLarger}
 use Rattle.gh_unify.specs.Tables.{best, with_solved}
 use Rattle.gh_unify.specs.declared.table.Variable.{Variable}

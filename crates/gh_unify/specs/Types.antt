@@ -1,5 +1,5 @@
 -- Types as plain trees, and what valuations of their variables make of them (Damas and Milner; Robinson).
-use Rattle.std.specs.Prelude.{◌≡◌, ℕ, suc, ◌+◌, Bool, true, false, eqb, ◌||◌, Option, Some, None}
+use Rattle.std.specs.Prelude.{ℕ, suc, ◌+◌, Bool, false, eqb, ◌||◌}
 use Rattle.gh_base.specs.declared.place.TyCon.{TyCon}
 use Rattle.gh_typeterm.specs.declared.ty.TyNode.{TyNode, fold-TyNode}
 use Rattle.gh_typeterm.specs.declared.ty.TyNode.TheOpen.{TyNode-F}

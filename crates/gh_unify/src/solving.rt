@@ -100,7 +100,12 @@ fn occurs(v: u32, term: &Ty) -> bool
 }
 
 // The table with a variable solved to another type, in which it must not occur.
-fn eliminate(alloc: Global, kept: &[Variable], v: u32, term: &Ty) -> Result<Vec<Variable>, UnifyFault>
+fn eliminate(
+    alloc: Global,
+    kept: &[Variable],
+    v: u32,
+    term: &Ty,
+) -> Result<Vec<Variable>, UnifyFault>
     requires drawn { v < length kept.now }
     requires other { head_of (mono term.now) ≡ Head.a_var v → ⊥ }
     ensures ok { IfOk result (λ made. (made.items ≡ with_solved kept.now v term.now) × (has v (mono term.now) ≡ false)) }
@@ -148,7 +153,12 @@ fn bind(alloc: Global, kept: &[Variable], x: &Ty, y: &Ty) -> Result<Vec<Variable
 }
 
 // The table with two types made equal in which no solved variable occurs.
-fn solve_read(alloc: Global, table: Vec<Variable>, left: Ty, right: Ty) -> Result<Vec<Variable>, UnifyFault>
+fn solve_read(
+    alloc: Global,
+    table: Vec<Variable>,
+    left: Ty,
+    right: Ty,
+) -> Result<Vec<Variable>, UnifyFault>
     requires tidy { IsTidy (eqs_of table.items) (drawn_of table.items) }
     requires left { AreFree table.items left }
     requires right { AreFree table.items right }

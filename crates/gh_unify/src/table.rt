@@ -59,7 +59,12 @@ pub fn copy(alloc: Global, kept: &[Variable]) -> Result<Vec<Variable>, NoMemory>
 }
 
 /// The table with one more variable solved: its type stands for it in the others.
-pub fn solved(alloc: Global, kept: &[Variable], number: u32, term: &Ty) -> Result<Vec<Variable>, NoMemory>
+pub fn solved(
+    alloc: Global,
+    kept: &[Variable],
+    number: u32,
+    term: &Ty,
+) -> Result<Vec<Variable>, NoMemory>
     requires { number < length kept.now }
     ensures { IfOk result (λ made. made.items ≡ with_solved kept.now number term.now) }
 {

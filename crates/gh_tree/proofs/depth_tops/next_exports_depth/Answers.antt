@@ -8,4 +8,4 @@ pub loop-part-preserved : goal.loop-part-preserved
 loop-part-preserved c =
     let f : NextExport → ℕ = λ x. export_depth x.export in
     push_deepest f c.args.parts.now c.loop-part.part-index c.loop-part.most c.greater-most.result c.export_depth.result c.part-item.result
-      (omega arith) c.part-item.is c.export_depth.ensures c.loop-part.invariant c.greater-most.ensures
+    (omega arith) c.part-item.is c.export_depth.ensures c.loop-part.invariant c.greater-most.ensures

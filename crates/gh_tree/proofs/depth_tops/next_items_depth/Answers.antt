@@ -8,4 +8,4 @@ pub loop-part-preserved : goal.loop-part-preserved
 loop-part-preserved c =
     let f : NextItem → ℕ = λ x. item_depth x.item in
     push_deepest f c.args.parts.now c.loop-part.part-index c.loop-part.most c.greater-most.result c.item_depth.result c.part-item.result
-      (omega arith) c.part-item.is c.item_depth.ensures c.loop-part.invariant c.greater-most.ensures
+    (omega arith) c.part-item.is c.item_depth.ensures c.loop-part.invariant c.greater-most.ensures

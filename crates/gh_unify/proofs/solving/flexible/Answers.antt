@@ -1,4 +1,4 @@
-use Rattle.std.proofs.Common.{◌≡◌, sym, ap, ◌∙◌}
+use Rattle.std.proofs.Common.{sym, ap, ◌∙◌}
 use Rattle.gh_unify.specs.Types.{mono}
 use Rattle.gh_unify.proofs.Reading.{drawn_var, mono-Var}
 use Rattle.gh_unify.proofs.Tables.{rigid_entry}

@@ -1,4 +1,3 @@
-use Rattle.std.proofs.Common.{◌≡◌, sym, ap, ◌∙◌}
 use Rattle.std.proofs.lemmas.Result.{IfOk-weaker}
 use Rattle.gh_unify.specs.Steps.{Reached, Blocked}
 use Rattle.gh_unify.proofs.Going.{read_reached, read_blocked, read_are_free, all_refused}
@@ -17,13 +16,13 @@ returns-clause-ok c =
     let kept = c.args.kept.now in
     let made = c.in-Ok.made.items in
     IfOk-weaker c.solve_read.result (λ end. Reached made c.in-Ok-read.left c.in-Ok-read-2.right end.items) (λ end. Reached kept c.args.a.now c.args.b.now end.items)
-      (λ end. read_reached kept made end.items c.args.a.now c.args.b.now c.in-Ok-read.left c.in-Ok-read-2.right c.requires.tidy c.in-Ok.ensures c.in-Ok-read.ensures c.in-Ok-read-2.ensures)
-      c.solve_read.ensures.ok
+    (λ end. read_reached kept made end.items c.args.a.now c.args.b.now c.in-Ok-read.left c.in-Ok-read-2.right c.requires.tidy c.in-Ok.ensures c.in-Ok-read.ensures c.in-Ok-read-2.ensures)
+    c.solve_read.ensures.ok
 
 pub returns-clause-refused : goal.returns-clause-refused
 returns-clause-refused c =
     let kept = c.args.kept.now in
     let made = c.in-Ok.made.items in
     all_refused c.solve_read.result (λ fault. Blocked fault made c.in-Ok-read.left c.in-Ok-read-2.right) (λ fault. Blocked fault kept c.args.a.now c.args.b.now)
-      (λ fault. read_blocked fault kept made c.args.a.now c.args.b.now c.in-Ok-read.left c.in-Ok-read-2.right c.in-Ok.ensures c.in-Ok-read.ensures c.in-Ok-read-2.ensures)
-      c.solve_read.ensures.refused
+    (λ fault. read_blocked fault kept made c.args.a.now c.args.b.now c.in-Ok-read.left c.in-Ok-read-2.right c.in-Ok.ensures c.in-Ok-read.ensures c.in-Ok-read-2.ensures)
+    c.solve_read.ensures.refused

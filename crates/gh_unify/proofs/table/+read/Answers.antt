@@ -1,10 +1,10 @@
-use Rattle.std.proofs.Common.{◌≡◌, ◌<◌, sym, ap, ◌∙◌, arith}
+use Rattle.std.proofs.Common.{◌≡◌, sym, ap, ◌∙◌, arith}
 use Rattle.std.proofs.lemmas.Result.{IfOk-weaker}
-use Rattle.gh_unify.specs.Types.{mono, inst, nodes}
+use Rattle.gh_unify.specs.Types.{mono, inst}
 use Rattle.gh_unify.specs.Kept.{eqs_of, type_in}
 use Rattle.gh_unify.specs.Tables.{best, value_of}
 use Rattle.gh_unify.proofs.Reading.{drawn_var, drawn_head, drawn_arg, head_less, arg_less, mono-Var}
-use Rattle.gh_unify.proofs.Tables.{type_entry, read_var}
+use Rattle.gh_unify.proofs.Tables.{read_var}
 use Rattle.gh_unify.proofs.table.+read.Goals as goal
 
 pub bounds-kept-v : goal.bounds-kept-v
@@ -31,7 +31,7 @@ returns-in-Some t c =
     let h = drawn_var kept term v e c.requires.drawn in
     let read = read_var kept term v c.index-kept-v.result e h in
     IfOk-weaker c.share-in-Some.result (λ shared. shared ≡ c.in-Some.solved) (λ made. mono made ≡ inst (best (eqs_of kept)) (mono term))
-      (λ x p. ap mono p ∙ sym (read ∙ ap (λ o. value_of (type_in o) v) c.in-Some.is)) c.share-in-Some.ensures
+    (λ x p. ap mono p ∙ sym (read ∙ ap (λ o. value_of (type_in o) v) c.in-Some.is)) c.share-in-Some.ensures
 
 pub returns-in-None : goal.returns-in-None
 returns-in-None t c =
@@ -42,4 +42,4 @@ returns-in-None t c =
     let h = drawn_var kept term v e c.requires.drawn in
     let read = read_var kept term v c.index-kept-v.result e h in
     IfOk-weaker c.share-in-None.result (λ shared. shared ≡ term) (λ made. mono made ≡ inst (best (eqs_of kept)) (mono term))
-      (λ x p. ap mono (p ∙ e) ∙ mono-Var v ∙ sym (read ∙ ap (λ o. value_of (type_in o) v) c.in-None.is)) c.share-in-None.ensures
+    (λ x p. ap mono (p ∙ e) ∙ mono-Var v ∙ sym (read ∙ ap (λ o. value_of (type_in o) v) c.in-None.is)) c.share-in-None.ensures

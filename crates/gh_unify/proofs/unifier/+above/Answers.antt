@@ -1,4 +1,4 @@
-use Rattle.std.proofs.Common.{◌≡◌, ◌≤◌, IsTrue, sym, ap, ◌∙◌, arith}
+use Rattle.std.proofs.Common.{sym, ap, ◌∙◌, arith}
 use Rattle.gh_unify.specs.Types.{mono, has}
 use Rattle.gh_unify.specs.Kept.{is_rigid, drawn_of}
 use Rattle.gh_unify.proofs.Insts.{eqb-same, not-both}
@@ -43,10 +43,11 @@ returns-then-level-kept t c =
     let e = sym c.get.ensures ∙ c.in-Var.is in
     let h = drawn_var c.args.kept.now c.args.term.now c.in-Var.v e c.requires in
     let level = level_entry c.args.kept.now c.in-Var.v c.index-kept-at-in-Var.result h in
-    let more = c.if-level-kept.true in
-    (ap (has c.in-Var.v) (ap mono e ∙ mono-Var c.in-Var.v) ∙ eqb-same c.in-Var.v,
+    let more = c.if-level-kept.true in (
+      ap (has c.in-Var.v) (ap mono e ∙ mono-Var c.in-Var.v) ∙ eqb-same c.in-Var.v,
       rigid_entry c.args.kept.now c.in-Var.v c.index-kept-at.result h ∙ c.if-not-kept-at.false,
-      omega (arith, level, more))
+      omega (arith, level, more),
+    )
 
 pub returns-else-level-kept : goal.returns-else-level-kept
 returns-else-level-kept t c =

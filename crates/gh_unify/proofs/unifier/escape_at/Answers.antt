@@ -1,4 +1,3 @@
-use Rattle.std.proofs.Common.{◌≡◌, sym, ap, ◌∙◌}
 use Rattle.gh_unify.proofs.Ends.{tidy_drawn, stays_open, at_entry}
 use Rattle.gh_unify.proofs.unifier.escape_at.Goals as goal
 

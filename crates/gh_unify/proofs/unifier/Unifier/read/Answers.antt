@@ -1,4 +1,4 @@
-use Rattle.std.proofs.Common.{◌≡◌, sym, ap, ◌∙◌}
+use Rattle.std.proofs.Common.{◌≡◌, ap, ◌∙◌}
 use Rattle.std.proofs.lemmas.Result.{IfOk-weaker}
 use Rattle.gh_unify.specs.Types.{mono, inst}
 use Rattle.gh_unify.specs.Kept.{IsRead, eqs_of}
@@ -9,5 +9,5 @@ use Rattle.gh_unify.proofs.unifier.Unifier.read.Goals as goal
 pub returns : goal.returns
 returns c =
     IfOk-weaker c.read.result (λ made. mono made ≡ inst (best (eqs_of c.as_slice.result.now)) (mono c.args.a.now)) (λ made. IsRead c.args.self.now c.args.a.now made)
-      (λ r e. best_read c.self.inside.kept.items c.args.self.now c.args.a.now c.self.invariant.tidy c.self.view_is r (e ∙ ap (λ k. inst (best (eqs_of k)) (mono c.args.a.now)) c.as_slice.ensures.value))
-      c.read.ensures
+    (λ r e. best_read c.self.inside.kept.items c.args.self.now c.args.a.now c.self.invariant.tidy c.self.view_is r (e ∙ ap (λ k. inst (best (eqs_of k)) (mono c.args.a.now)) c.as_slice.ensures.value))
+    c.read.ensures

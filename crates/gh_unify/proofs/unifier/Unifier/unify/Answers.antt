@@ -1,9 +1,9 @@
-use Rattle.std.proofs.Common.{◌≡◌, sym, ap, ◌∙◌, subst, List}
-use Rattle.gh_unify.specs.Kept.{CanBeMet, drawn_of, eqs_of, InScope, InSize}
+use Rattle.std.proofs.Common.{◌≡◌, ◌∙◌, subst, List}
+use Rattle.gh_unify.specs.Kept.{drawn_of, eqs_of, InScope, InSize}
 use Rattle.gh_unify.specs.Tables.{best}
 use Rattle.gh_unify.specs.Steps.{IsSettled, Reached, Blocked, Leaves, Exceeds}
 use Rattle.gh_unify.specs.declared.table.Variable.{Variable}
-use Rattle.gh_unify.proofs.Ends.{settled_met, blocked_lacks, blocked_shows, leaves_both, exceeds_both, made_from, made_to, made_tidy, made_count, made_settled}
+use Rattle.gh_unify.proofs.Ends.{settled_met, blocked_lacks, blocked_shows, leaves_both, exceeds_both, made_from, made_to, made_settled}
 use Rattle.gh_unify.proofs.unifier.Unifier.unify.Goals as goal
 
 pub returns-in-Err-clause-before : goal.returns-in-Err-clause-before
