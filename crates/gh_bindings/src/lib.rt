@@ -1,0 +1,6 @@
+//! Programs of bindings between names, strings and `++`.
+#![tactic(auto)]
+
+mod binding;
+
+pub use binding::{Binding, Operand};
