@@ -1,6 +1,15 @@
-//! Programs of bindings between names, strings and `++`.
+//! Programs of bindings between names, strings and `++`: what they mean, and their core.
 #![tactic(auto)]
 
+mod append;
 mod binding;
+mod laws;
+mod names;
+mod program;
+#[cfg(test)]
+mod tests;
+mod types;
 
 pub use binding::{Binding, Operand};
+pub use laws::{core_goes_on, core_keeps_meaning, none_fails};
+pub use program::core_of;

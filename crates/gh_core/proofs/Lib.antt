@@ -3,3 +3,5 @@ pub mod Examples
 pub mod Nameless
 pub mod Runs
 pub mod Shapes
+pub mod TypingExamples
+pub mod OneType

@@ -8,3 +8,4 @@ pub mod Run
 pub mod SameType
 pub mod Scopes
 pub mod Terms
+pub mod Typing

@@ -1,25 +1,21 @@
 -- The depth of each node, in numbers that stand still at the greatest `u32`.
-use Rattle.std.proofs.Common.{◌≡◌, ℕ, ◌+◌, max, List, ◌∷◌, [], length, map, Option, Some, None, refl, sym, ap, ◌∙◌}
-use Rattle.std.specs.Prelude.{option_map}
+use Rattle.std.proofs.Common.{◌≡◌, ℕ, ◌+◌, max, List, length, map, Option, sym, ap, ◌∙◌}
 use Rattle.gh_base.specs.declared.place.Span.{Span}
 use Rattle.gh_tree.specs.declared.names.Name.{Name}
 use Rattle.gh_tree.specs.declared.names.Var.{Var}
-use Rattle.gh_tree.specs.declared.names.Con.{Con}
 use Rattle.gh_tree.specs.declared.names.VarOp.{VarOp}
-use Rattle.gh_tree.specs.declared.names.ConOp.{ConOp}
 use Rattle.gh_tree.specs.declared.names.Op.{Op}
 use Rattle.gh_tree.specs.declared.names.GenCon.{GenCon}
-use Rattle.gh_tree.specs.declared.names.BlockMark.{BlockMark}
 use Rattle.gh_tree.specs.declared.names.FixityWord.{FixityWord}
 use Rattle.gh_tree.specs.declared.names.NextVar.{NextVar}
 use Rattle.gh_tree.specs.declared.names.NextOp.{NextOp}
-use Rattle.gh_tree.specs.declared.types.ArgType.{ArgType, fold-roll-ArgType}
+use Rattle.gh_tree.specs.declared.types.ArgType.{fold-roll-ArgType}
 use Rattle.gh_tree.specs.declared.types.ArgType.TheVariants as v_ArgType
 use Rattle.gh_tree.specs.declared.types.Arrow.{Arrow, out-Arrow, fold_out-Arrow}
 use Rattle.gh_tree.specs.declared.types.BType.{BType, out-BType, fold_out-BType}
 use Rattle.gh_tree.specs.declared.types.TypeExpr.{TypeExpr, out-TypeExpr, fold_out-TypeExpr}
 use Rattle.gh_tree.specs.declared.types.TypePart.{TypePart, out-TypePart, fold_out-TypePart}
-use Rattle.gh_tree.specs.declared.types.ArgType.TheOpen.{ArgType-F, Arrow-F, BType-F, TypeExpr-F, TypePart-F}
+use Rattle.gh_tree.specs.declared.types.ArgType.TheOpen.{ArgType-F}
 use Rattle.gh_tree.specs.declared.patterns.ArgPattern.{ArgPattern, fold-roll-ArgPattern}
 use Rattle.gh_tree.specs.declared.patterns.ArgPattern.TheVariants as v_ArgPattern
 use Rattle.gh_tree.specs.declared.patterns.PatOperand.{PatOperand, fold-roll-PatOperand}
@@ -27,15 +23,15 @@ use Rattle.gh_tree.specs.declared.patterns.PatOperand.TheVariants as v_PatOperan
 use Rattle.gh_tree.specs.declared.patterns.NextPattern.{NextPattern, out-NextPattern, fold_out-NextPattern}
 use Rattle.gh_tree.specs.declared.patterns.PatPart.{PatPart, out-PatPart, fold_out-PatPart}
 use Rattle.gh_tree.specs.declared.patterns.Pattern.{Pattern, out-Pattern, fold_out-Pattern}
-use Rattle.gh_tree.specs.declared.patterns.ArgPattern.TheOpen.{ArgPattern-F, PatOperand-F, NextPattern-F, PatPart-F, Pattern-F}
+use Rattle.gh_tree.specs.declared.patterns.ArgPattern.TheOpen.{ArgPattern-F, PatOperand-F}
 use Rattle.gh_tree.specs.declared.patterns.FunLhs.{FunLhs, fold-roll-FunLhs}
 use Rattle.gh_tree.specs.declared.patterns.FunLhs.TheVariants as v_FunLhs
 use Rattle.gh_tree.specs.declared.patterns.FunLhs.TheOpen.{FunLhs-F}
 use Rattle.gh_tree.specs.declared.expressions.Aexp.{Aexp, fold-roll-Aexp}
 use Rattle.gh_tree.specs.declared.expressions.Aexp.TheVariants as v_Aexp
-use Rattle.gh_tree.specs.declared.expressions.Alt.{Alt, fold-roll-Alt}
+use Rattle.gh_tree.specs.declared.expressions.Alt.{fold-roll-Alt}
 use Rattle.gh_tree.specs.declared.expressions.Alt.TheVariants as v_Alt
-use Rattle.gh_tree.specs.declared.expressions.Decl.{Decl, fold-roll-Decl}
+use Rattle.gh_tree.specs.declared.expressions.Decl.{fold-roll-Decl}
 use Rattle.gh_tree.specs.declared.expressions.Decl.TheVariants as v_Decl
 use Rattle.gh_tree.specs.declared.expressions.Exp.{Exp, fold-roll-Exp}
 use Rattle.gh_tree.specs.declared.expressions.Exp.TheVariants as v_Exp
@@ -43,7 +39,7 @@ use Rattle.gh_tree.specs.declared.expressions.Locals.{Locals, fold-roll-Locals}
 use Rattle.gh_tree.specs.declared.expressions.Locals.TheVariants as v_Locals
 use Rattle.gh_tree.specs.declared.expressions.Open.{Open, fold-roll-Open}
 use Rattle.gh_tree.specs.declared.expressions.Open.TheVariants as v_Open
-use Rattle.gh_tree.specs.declared.expressions.Operand.{Operand, fold-roll-Operand}
+use Rattle.gh_tree.specs.declared.expressions.Operand.{fold-roll-Operand}
 use Rattle.gh_tree.specs.declared.expressions.Operand.TheVariants as v_Operand
 use Rattle.gh_tree.specs.declared.expressions.Rhs.{Rhs, fold-roll-Rhs}
 use Rattle.gh_tree.specs.declared.expressions.Rhs.TheVariants as v_Rhs
@@ -61,7 +57,7 @@ use Rattle.gh_tree.specs.declared.expressions.Part.{Part, out-Part, fold_out-Par
 use Rattle.gh_tree.specs.declared.expressions.Redef.{Redef, out-Redef, fold_out-Redef}
 use Rattle.gh_tree.specs.declared.expressions.RedefItem.{RedefItem, out-RedefItem, fold_out-RedefItem}
 use Rattle.gh_tree.specs.declared.expressions.Redefs.{Redefs, out-Redefs, fold_out-Redefs}
-use Rattle.gh_tree.specs.declared.expressions.Aexp.TheOpen.{Aexp-F, Alt-F, Decl-F, Exp-F, Locals-F, Open-F, Operand-F, Rhs-F, Where-F, AltGuard-F, AltItem-F, Alts-F, DeclItem-F, Decls-F, Guard-F, NextOperand-F, OperandList-F, Part-F, Redef-F, RedefItem-F, Redefs-F}
+use Rattle.gh_tree.specs.declared.expressions.Aexp.TheOpen.{Aexp-F, Alt-F, Decl-F, Exp-F, Locals-F, Open-F, Operand-F, Rhs-F, Where-F}
 use Rattle.gh_tree.specs.Depth.{capped, capped_sum, weight_of, deepest, arg_type_depth, arrow_depth, btype_depth, type_depth, type_part_depth, arg_pattern_depth, pat_operand_depth, next_pattern_depth, pat_part_depth, pattern_depth, fun_lhs_depth, aexp_depth, alt_depth, decl_depth, exp_depth, locals_depth, open_depth, operand_depth, rhs_depth, where_depth, alt_guard_depth, alt_item_depth, alts_depth, decl_item_depth, decls_depth, guard_depth, next_operand_depth, operands_depth, part_depth, redef_depth, redef_item_depth, redefs_depth, arg_type_step, arrow_step, btype_step, type_step, type_part_step, arg_pattern_step, pat_operand_step, next_pattern_step, pat_part_step, pattern_step, fun_lhs_step, aexp_step, alt_step, decl_step, exp_step, locals_step, open_step, operand_step, rhs_step, where_step, alt_guard_step, alt_item_step, alts_step, decl_item_step, decls_step, guard_step, next_operand_step, operands_step, part_step, redef_step, redef_item_step, redefs_step}
 use Rattle.std.proofs.lemmas.List.{length-map}
 use Rattle.gh_tree.proofs.Capped.{capped_max, capped_adds, zero_is, one_is, two_is}

@@ -1,11 +1,10 @@
 -- Small programs as trees. Each is printed as its tokens, which stand above it as text, and is well formed. Token `i` has the
 -- bytes from `i` up to `i + 1`. `<{`, `<;` and `<}` are marks that the layout inserted.
-use Rattle.std.proofs.Common.{◌≡◌, ℕ, ◌+◌, Bool, true, false, List, [], ◌∷◌, Option, Some, None, refl}
-use Rattle.gh_base.specs.declared.fixed.TheConstants.{AS, QUALIFIED, HIDING, EXTENDS, MINUS, PLUS, COMPOSE, APPEND, PRODUCT, MAIN_MODULE, MAIN, PRELUDE}
+use Rattle.std.proofs.Common.{◌≡◌, ℕ, ◌+◌, true, [], ◌∷◌, Option, Some, None, refl}
+use Rattle.gh_base.specs.declared.fixed.TheConstants.{EXTENDS, MINUS, PLUS, COMPOSE, PRODUCT, MAIN_MODULE, MAIN}
 use Rattle.gh_base.specs.declared.names.NameId.{NameId}
 use Rattle.gh_base.specs.declared.place.Span.{Span}
 use Rattle.gh_tree.specs.declared.symbol.Kind.TheVariants as k
-use Rattle.gh_tree.specs.declared.symbol.Sym.{Sym}
 use Rattle.gh_tree.specs.declared.names.Name.{Name}
 use Rattle.gh_tree.specs.declared.names.Var.TheVariants as v_Var
 use Rattle.gh_tree.specs.declared.names.Con.TheVariants as v_Con
@@ -16,56 +15,34 @@ use Rattle.gh_tree.specs.declared.names.GenCon.TheVariants as v_GenCon
 use Rattle.gh_tree.specs.declared.names.BlockMark.TheVariants as v_BlockMark
 use Rattle.gh_tree.specs.declared.names.FixityWord.TheVariants as v_FixityWord
 use Rattle.gh_tree.specs.declared.types.ArgType.TheVariants as v_ArgType
-use Rattle.gh_tree.specs.declared.types.Arrow.{Arrow, roll-Arrow}
-use Rattle.gh_tree.specs.declared.types.BType.{BType, roll-BType}
+use Rattle.gh_tree.specs.declared.types.BType.{roll-BType}
 use Rattle.gh_tree.specs.declared.types.TypeExpr.{TypeExpr, roll-TypeExpr}
-use Rattle.gh_tree.specs.declared.types.TypePart.{TypePart, roll-TypePart}
 use Rattle.gh_tree.specs.declared.patterns.ArgPattern.TheVariants as v_ArgPattern
 use Rattle.gh_tree.specs.declared.patterns.PatOperand.TheVariants as v_PatOperand
 use Rattle.gh_tree.specs.declared.patterns.FunLhs.TheVariants as v_FunLhs
-use Rattle.gh_tree.specs.declared.patterns.NextPattern.{NextPattern, roll-NextPattern}
-use Rattle.gh_tree.specs.declared.patterns.PatPart.{PatPart, roll-PatPart}
+use Rattle.gh_tree.specs.declared.patterns.NextPattern.{roll-NextPattern}
+use Rattle.gh_tree.specs.declared.patterns.PatPart.{roll-PatPart}
 use Rattle.gh_tree.specs.declared.patterns.Pattern.{Pattern, roll-Pattern}
-use Rattle.gh_tree.specs.declared.expressions.Aexp.{Aexp}
 use Rattle.gh_tree.specs.declared.expressions.Aexp.TheVariants as v_Aexp
-use Rattle.gh_tree.specs.declared.expressions.Alt.{Alt}
 use Rattle.gh_tree.specs.declared.expressions.Alt.TheVariants as v_Alt
 use Rattle.gh_tree.specs.declared.expressions.Decl.{Decl}
 use Rattle.gh_tree.specs.declared.expressions.Decl.TheVariants as v_Decl
 use Rattle.gh_tree.specs.declared.expressions.Exp.{Exp}
 use Rattle.gh_tree.specs.declared.expressions.Exp.TheVariants as v_Exp
-use Rattle.gh_tree.specs.declared.expressions.Locals.{Locals}
 use Rattle.gh_tree.specs.declared.expressions.Locals.TheVariants as v_Locals
-use Rattle.gh_tree.specs.declared.expressions.Open.{Open}
 use Rattle.gh_tree.specs.declared.expressions.Open.TheVariants as v_Open
-use Rattle.gh_tree.specs.declared.expressions.Operand.{Operand}
 use Rattle.gh_tree.specs.declared.expressions.Operand.TheVariants as v_Operand
-use Rattle.gh_tree.specs.declared.expressions.Rhs.{Rhs}
 use Rattle.gh_tree.specs.declared.expressions.Rhs.TheVariants as v_Rhs
-use Rattle.gh_tree.specs.declared.expressions.Where.{Where}
 use Rattle.gh_tree.specs.declared.expressions.Where.TheVariants as v_Where
-use Rattle.gh_tree.specs.declared.expressions.AltGuard.{AltGuard, roll-AltGuard}
-use Rattle.gh_tree.specs.declared.expressions.AltItem.{AltItem, roll-AltItem}
-use Rattle.gh_tree.specs.declared.expressions.Alts.{Alts, roll-Alts}
-use Rattle.gh_tree.specs.declared.expressions.DeclItem.{DeclItem, roll-DeclItem}
-use Rattle.gh_tree.specs.declared.expressions.Decls.{Decls, roll-Decls}
-use Rattle.gh_tree.specs.declared.expressions.Guard.{Guard, roll-Guard}
-use Rattle.gh_tree.specs.declared.expressions.NextOperand.{NextOperand, roll-NextOperand}
-use Rattle.gh_tree.specs.declared.expressions.OperandList.{OperandList, roll-OperandList}
-use Rattle.gh_tree.specs.declared.expressions.Part.{Part, roll-Part}
-use Rattle.gh_tree.specs.declared.expressions.Redef.{Redef, roll-Redef}
-use Rattle.gh_tree.specs.declared.expressions.RedefItem.{RedefItem, roll-RedefItem}
-use Rattle.gh_tree.specs.declared.expressions.Redefs.{Redefs, roll-Redefs}
-use Rattle.gh_tree.specs.declared.tops.Export.{Export}
-use Rattle.gh_tree.specs.declared.tops.Export.TheVariants as v_Export
-use Rattle.gh_tree.specs.declared.tops.Parts.{Parts}
-use Rattle.gh_tree.specs.declared.tops.Parts.TheVariants as v_Parts
-use Rattle.gh_tree.specs.declared.tops.Entity.{Entity}
-use Rattle.gh_tree.specs.declared.tops.Entity.TheVariants as v_Entity
+use Rattle.gh_tree.specs.declared.expressions.AltGuard.{roll-AltGuard}
+use Rattle.gh_tree.specs.declared.expressions.AltItem.{roll-AltItem}
+use Rattle.gh_tree.specs.declared.expressions.Alts.{roll-Alts}
+use Rattle.gh_tree.specs.declared.expressions.DeclItem.{roll-DeclItem}
+use Rattle.gh_tree.specs.declared.expressions.Decls.{roll-Decls}
+use Rattle.gh_tree.specs.declared.expressions.Guard.{roll-Guard}
+use Rattle.gh_tree.specs.declared.expressions.OperandList.{roll-OperandList}
 use Rattle.gh_tree.specs.declared.tops.Top.{Top}
 use Rattle.gh_tree.specs.declared.tops.Top.TheVariants as v_Top
-use Rattle.gh_tree.specs.declared.tops.Constr.{Constr}
-use Rattle.gh_tree.specs.declared.tops.Constr.TheVariants as v_Constr
 use Rattle.gh_tree.specs.declared.module_tree.ModuleTree.{ModuleTree}
 use Rattle.gh_tree.specs.declared.module_tree.Item.TheVariants as v_Item
 use Rattle.gh_tree.specs.Print.{type_expr, pattern, exp, decl, top, module_print}
@@ -396,7 +373,7 @@ decl_5 = v_Decl.Signature (sp 0 5) (v_Var.Word (name 0 None (id 204))) ((record 
 pub decl_5_flat : (decl decl_5).flat ≡ at (k.VarId None (id 204)) (sp 0 1) ∷ at k.Comma (sp 1 2) ∷ at (k.VarId None (id 214)) (sp 2 3) ∷ at k.Colons (sp 3 4) ∷ at (k.ConId None (id 200)) (sp 4 5) ∷ []
 decl_5_flat = simp printed
 
---     infixl 6 + , `div`
+--     infixl 6 + , <+>
 abbrev decl_6 : Decl
 decl_6 = v_Decl.Fixity (sp 0 5) (v_FixityWord.Left (sp 0 1)) (Some ((sp 1 2), 6)) (v_Op.Var (v_VarOp.Symbol (name 2 None PLUS))) ((record { mark = (sp 3 4); op = (v_Op.Var (v_VarOp.Symbol (name 4 None (id 217)))) }) ∷ [])
 

@@ -1,4 +1,13 @@
 pub mod Capped
+pub mod CompleteExports
+pub mod CompleteNames
+pub mod CompletePatterns
+pub mod CompleteTypes
 pub mod DepthAt
 pub mod Examples
+pub mod ItemExamples
+pub mod Loops
+pub mod Many
 pub mod Printed
+pub mod Refused
+pub mod Steps

@@ -1,12 +1,11 @@
 -- What each node is printed as, by its parts.
-use Rattle.std.proofs.Common.{◌≡◌, ℕ, Bool, true, false, not, ◌&&◌, List, [], ◌∷◌, ◌++◌, map, Option, Some, None, sym, ap, ◌∙◌}
+use Rattle.std.proofs.Common.{◌≡◌, ℕ, true, false, not, ◌&&◌, List, [], ◌∷◌, ◌++◌, map, Option, None, sym, ap, ◌∙◌}
 use Rattle.gh_base.specs.declared.fixed.TheConstants.{MINUS}
 use Rattle.gh_base.specs.declared.place.Span.{Span}
 use Rattle.gh_tree.specs.declared.symbol.Kind.TheVariants as k
 use Rattle.gh_tree.specs.Syms.{at, cover, same_span}
 use Rattle.gh_tree.specs.declared.names.Name.{Name}
 use Rattle.gh_tree.specs.declared.names.Var.{Var}
-use Rattle.gh_tree.specs.declared.names.Con.{Con}
 use Rattle.gh_tree.specs.declared.names.VarOp.{VarOp}
 use Rattle.gh_tree.specs.declared.names.ConOp.{ConOp}
 use Rattle.gh_tree.specs.declared.names.Op.{Op}
@@ -21,7 +20,7 @@ use Rattle.gh_tree.specs.declared.types.Arrow.{Arrow, roll-Arrow, fold-roll-Arro
 use Rattle.gh_tree.specs.declared.types.BType.{BType, roll-BType, fold-roll-BType}
 use Rattle.gh_tree.specs.declared.types.TypeExpr.{TypeExpr, roll-TypeExpr, fold-roll-TypeExpr}
 use Rattle.gh_tree.specs.declared.types.TypePart.{TypePart, roll-TypePart, fold-roll-TypePart}
-use Rattle.gh_tree.specs.declared.types.ArgType.TheOpen.{ArgType-F, Arrow-F, BType-F, TypeExpr-F, TypePart-F}
+use Rattle.gh_tree.specs.declared.types.ArgType.TheOpen.{ArgType-F}
 use Rattle.gh_tree.specs.declared.patterns.ArgPattern.{ArgPattern, fold-roll-ArgPattern}
 use Rattle.gh_tree.specs.declared.patterns.ArgPattern.TheVariants as v_ArgPattern
 use Rattle.gh_tree.specs.declared.patterns.PatOperand.{PatOperand, fold-roll-PatOperand}
@@ -29,7 +28,7 @@ use Rattle.gh_tree.specs.declared.patterns.PatOperand.TheVariants as v_PatOperan
 use Rattle.gh_tree.specs.declared.patterns.NextPattern.{NextPattern, roll-NextPattern, fold-roll-NextPattern}
 use Rattle.gh_tree.specs.declared.patterns.PatPart.{PatPart, roll-PatPart, fold-roll-PatPart}
 use Rattle.gh_tree.specs.declared.patterns.Pattern.{Pattern, roll-Pattern, fold-roll-Pattern}
-use Rattle.gh_tree.specs.declared.patterns.ArgPattern.TheOpen.{ArgPattern-F, PatOperand-F, NextPattern-F, PatPart-F, Pattern-F}
+use Rattle.gh_tree.specs.declared.patterns.ArgPattern.TheOpen.{ArgPattern-F, PatOperand-F}
 use Rattle.gh_tree.specs.declared.patterns.FunLhs.{FunLhs, fold-roll-FunLhs}
 use Rattle.gh_tree.specs.declared.patterns.FunLhs.TheVariants as v_FunLhs
 use Rattle.gh_tree.specs.declared.patterns.FunLhs.TheOpen.{FunLhs-F}
@@ -63,8 +62,8 @@ use Rattle.gh_tree.specs.declared.expressions.Part.{Part, roll-Part, fold-roll-P
 use Rattle.gh_tree.specs.declared.expressions.Redef.{Redef, roll-Redef, fold-roll-Redef}
 use Rattle.gh_tree.specs.declared.expressions.RedefItem.{RedefItem, roll-RedefItem, fold-roll-RedefItem}
 use Rattle.gh_tree.specs.declared.expressions.Redefs.{Redefs, roll-Redefs, fold-roll-Redefs}
-use Rattle.gh_tree.specs.declared.expressions.Aexp.TheOpen.{Aexp-F, Alt-F, Decl-F, Exp-F, Locals-F, Open-F, Operand-F, Rhs-F, Where-F, AltGuard-F, AltItem-F, Alts-F, DeclItem-F, Decls-F, Guard-F, NextOperand-F, OperandList-F, Part-F, Redef-F, RedefItem-F, Redefs-F}
-use Rattle.gh_tree.specs.Print.{Print, print, spanned, flat_all, good_all, closed_before, last_open, parted, is_tuple, is_some, var_id, con_id, var_sym, con_sym, plain, var, plain_var, con, plain_con, var_op, plain_var_op, con_op, plain_con_op, op_flat, plain_op, is_minus, minus_flat, commas, gen_con, fixity_word, level_flat, is_level, next_var, next_op, block, block_part, block_some, opened, operands_of, plain_nexts, arg_type, arg_type_step, arrow, arrow_step, btype, btype_step, type_expr, type_expr_step, type_part, type_part_step, arg_pattern, arg_pattern_step, pat_operand, pat_operand_step, next_pattern, next_pattern_step, pat_part, pat_part_step, pattern, pattern_step, fun_lhs, fun_lhs_step, aexp, aexp_step, alt, alt_step, decl, decl_step, exp, exp_step, locals, locals_step, open_operand, open_operand_step, operand, operand_step, rhs, rhs_step, alt_guard, alt_guard_step, alt_item, alt_item_step, alts, alts_step, decl_item, decl_item_step, decls, decls_step, guard, guard_step, next_operand, next_operand_step, operands, operands_step, part, part_step, redef, redef_step, redef_item, redef_item_step, redefs, redefs_step, where_part, where_part_step}
+use Rattle.gh_tree.specs.declared.expressions.Aexp.TheOpen.{Aexp-F, Alt-F, Decl-F, Exp-F, Locals-F, Open-F, Operand-F, Rhs-F, Where-F}
+use Rattle.gh_tree.specs.Print.{Print, print, spanned, flat_all, good_all, is_tuple, is_some, var_id, con_id, plain, var, plain_var, var_op, plain_var_op, con_op, op_flat, plain_op, is_minus, minus_flat, commas, gen_con, fixity_word, level_flat, is_level, next_var, next_op, block, block_part, block_some, opened, operands_of, plain_nexts, arg_type, arg_type_step, arrow, arrow_step, btype, btype_step, type_expr, type_expr_step, type_part, type_part_step, arg_pattern, arg_pattern_step, pat_operand, pat_operand_step, next_pattern, next_pattern_step, pat_part, pat_part_step, pattern, pattern_step, fun_lhs, fun_lhs_step, aexp, aexp_step, alt, alt_step, decl, decl_step, exp, exp_step, locals, locals_step, open_operand, open_operand_step, operand, operand_step, rhs, rhs_step, alt_guard, alt_guard_step, alt_item, alt_item_step, alts, alts_step, decl_item, decl_item_step, decls, decls_step, guard, guard_step, next_operand, next_operand_step, operands, operands_step, part, part_step, redef, redef_step, redef_item, redef_item_step, redefs, redefs_step, where_part, where_part_step}
 
 pub printed_arg_type_con : (x0 : Name) → arg_type (v_ArgType.Con x0) ≡ print (con_id x0 ∷ []) true
 unfolding arg_type arrow btype type_expr type_part

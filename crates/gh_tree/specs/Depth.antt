@@ -1,7 +1,7 @@
 -- How deep a tree is: the greatest weight of a path of nodes. A node weighs one; one with a list of operands, arguments,
 -- elements, local bindings, alternatives, guards or types of an arrow weighs as many as that list has parts, where these
 -- are more than one. Each production is a node. Names, operators and marks are none.
-use Rattle.std.specs.Prelude.{◌≡◌, ℕ, ◌+◌, ◌-◌, ◌^◌, min, max, List, [], ◌∷◌, length, map, Option, Some, None, option_map}
+use Rattle.std.specs.Prelude.{ℕ, ◌+◌, ◌-◌, ◌^◌, min, max, List, [], ◌∷◌, length, map, Option, Some, None}
 use Rattle.gh_tree.specs.declared.types.ArgType.{ArgType, fold-ArgType}
 use Rattle.gh_tree.specs.declared.types.Arrow.{Arrow, fold-Arrow}
 use Rattle.gh_tree.specs.declared.types.BType.{BType, fold-BType}
@@ -43,28 +43,20 @@ use Rattle.gh_tree.specs.declared.tops.Export.{Export}
 use Rattle.gh_tree.specs.declared.tops.Parts.{Parts}
 use Rattle.gh_tree.specs.declared.tops.Import.{Import}
 use Rattle.gh_tree.specs.declared.tops.Entity.{Entity}
-use Rattle.gh_tree.specs.declared.tops.NextEntity.{NextEntity}
-use Rattle.gh_tree.specs.declared.tops.NextExport.{NextExport}
 use Rattle.gh_tree.specs.declared.tops.Entities.{Entities}
 use Rattle.gh_tree.specs.declared.tops.ExportList.{ExportList}
 use Rattle.gh_tree.specs.declared.tops.ImportList.{ImportList}
 use Rattle.gh_tree.specs.declared.tops.Top.{Top}
-use Rattle.gh_tree.specs.declared.tops.GenVars.{GenVars}
 use Rattle.gh_tree.specs.declared.tops.Context.{Context}
-use Rattle.gh_tree.specs.declared.tops.Deps.{Deps}
 use Rattle.gh_tree.specs.declared.tops.Dep.{Dep}
-use Rattle.gh_tree.specs.declared.tops.NextDep.{NextDep}
 use Rattle.gh_tree.specs.declared.tops.Constr.{Constr}
-use Rattle.gh_tree.specs.declared.tops.NextConstr.{NextConstr}
 use Rattle.gh_tree.specs.declared.tops.Export.TheVariants as export
-use Rattle.gh_tree.specs.declared.tops.Parts.TheVariants as parts
 use Rattle.gh_tree.specs.declared.tops.Entity.TheVariants as entity
 use Rattle.gh_tree.specs.declared.tops.Top.TheVariants as top
 use Rattle.gh_tree.specs.declared.tops.Constr.TheVariants as constr
 use Rattle.gh_tree.specs.declared.module_tree.ModuleTree.{ModuleTree}
 use Rattle.gh_tree.specs.declared.module_tree.Header.{Header}
 use Rattle.gh_tree.specs.declared.module_tree.Item.{Item}
-use Rattle.gh_tree.specs.declared.module_tree.NextItem.{NextItem}
 use Rattle.gh_tree.specs.declared.module_tree.Item.TheVariants as item
 
 -- a number, or the greatest `u32` for all above

@@ -1,3 +1,9 @@
 pub mod Depth
+pub mod Items
 pub mod Print
 pub mod Syms
+pub mod Read
+pub mod ReadTypes
+pub mod ReadExports
+pub mod ReadNames
+pub mod ReadPatterns

@@ -1,5 +1,5 @@
 -- What each tree is printed as, and whether it is well formed: one case for each production of the grammar.
-use Rattle.std.specs.Prelude.{◌≡◌, ℕ, ◌≤◌, Bool, true, false, not, ◌&&◌, nat_lt, ◌==◌, List, [], ◌∷◌, ◌++◌, length, map, Option, Some, None, IsTrue}
+use Rattle.std.specs.Prelude.{◌≡◌, ℕ, Bool, true, false, not, ◌&&◌, nat_lt, ◌==◌, List, [], ◌∷◌, ◌++◌, length, map, Option, Some, None, IsTrue}
 use Rattle.gh_base.specs.declared.fixed.TheConstants.{MINUS, AS, QUALIFIED, HIDING, EXTENDS}
 use Rattle.gh_base.specs.declared.place.Span.{Span}
 use Rattle.gh_base.specs.declared.names.NameId.{NameId}

@@ -4,10 +4,13 @@
 mod depth;
 mod depth_tops;
 mod expressions;
+mod laws;
 mod module_tree;
 mod names;
 mod patterns;
+pub mod program;
 mod symbol;
+mod syms;
 #[cfg(test)]
 mod tests;
 mod tops;
@@ -17,12 +20,15 @@ pub use expressions::{
     Aexp, Alt, AltGuard, AltItem, Alts, Decl, DeclItem, Decls, Exp, Guard, Locals, NextOperand,
     Open, Operand, OperandList, Part, Redef, RedefItem, Redefs, Rhs, Where,
 };
+pub use laws::{has_one_export_list, has_one_pattern, has_one_type};
 pub use module_tree::{Header, Item, ModuleTree, NextItem};
 pub use names::{
     BlockMark, Con, ConOp, FixityWord, GenCon, Name, NextName, NextOp, NextVar, Op, Var, VarOp,
 };
 pub use patterns::{ArgPattern, FunLhs, NextPattern, PatOperand, PatPart, Pattern};
+pub use program::Resolved;
 pub use symbol::{Kind, Sym};
+pub use syms::syms_of;
 pub use tops::{
     Alias, Constr, Context, Dep, Deps, Entities, Entity, Export, ExportList, Exports, GenVars,
     Import, ImportList, NextCon, NextConstr, NextDep, NextEntity, NextExport, OtherVars, Parts,

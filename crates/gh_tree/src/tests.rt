@@ -1,9 +1,11 @@
-// Depths that were counted by hand.
+// Depths that were counted by hand, and texts whose laid tokens are those of trees in `proofs/Examples.antt`.
 use crate::{
-    Aexp, BlockMark, Decl, Exp, FunLhs, Item, ModuleTree, Name, NextItem, Operand, OperandList,
-    Rhs, Top, Var, Where,
+    Aexp, BlockMark, Decl, Exp, FunLhs, Item, Kind, ModuleTree, Name, NextItem, Operand,
+    OperandList, Rhs, Sym, Top, Var, Where, syms_of,
 };
-use gh_base::{ListOf, NameId, Span};
+use gh_base::{ListOf, NameId, Names, Span};
+use gh_layout::lay;
+use gh_lexer::lex;
 use sqlite_items::Boxed;
 use std::alloc::{AllocError, Global};
 use std::process::Abort;
@@ -110,4 +112,85 @@ fn an_empty_file_has_depth_one(rt: HostRuntime) -> Result<(), Fail> {
     };
     assert_eq!(rt; tree.depth(), 1);
     Ok(())
+}
+
+// The laid tokens of a text, each as the grammar's word for it with the first and the last byte.
+fn laid_out(rt: &impl Abort, alloc: Global, text: &[u8]) -> Result<ListOf<Sym>, Fail> {
+    assert!(rt; text.len() < 100);
+    let mut names = Names::new(alloc)?;
+    match lex(alloc, &mut names, 1, text) {
+        Err(_) => Ok(ListOf::new(alloc)),
+        Ok(tokens) => {
+            assert!(rt; tokens.as_slice().len() < 100);
+            match lay(alloc, &tokens) {
+                Err(_) => Ok(ListOf::new(alloc)),
+                Ok(laid) => Ok(syms_of(alloc, &tokens, &laid)?),
+            }
+        }
+    }
+}
+
+fn word(kind: &Kind) -> &'static str {
+    match kind {
+        Kind::VarId(None, _) => "variable",
+        Kind::ConId(None, _) => "constructor",
+        Kind::VarSym(None, _) => "operator",
+        Kind::Int(1) => "one",
+        Kind::Case => "case",
+        Kind::Of => "of",
+        Kind::Underscore => "_",
+        Kind::Equals => "=",
+        Kind::Arrow => "->",
+        Kind::Bar => "|",
+        Kind::Comma => ",",
+        Kind::Open => "(",
+        Kind::Close => ")",
+        Kind::InsertedOpen(_) => "<{",
+        Kind::InsertedSemicolon(_) => "<;",
+        Kind::InsertedClose(_) => "<}",
+        _ => "?",
+    }
+}
+
+fn agrees(rt: &impl Abort, alloc: Global, text: &[u8], want: &str) -> Result<(), Fail> {
+    let mut shown = format!(in alloc; "")?;
+    for sym in laid_out(rt, alloc, text)?.as_slice() {
+        let (from, to) = (sym.span.from, sym.span.to);
+        let next = format!(in alloc; "{}{}-{} ", word(&sym.kind), from, to)?;
+        shown.push_str(&next)?;
+    }
+    assert_eq!(rt; shown.trim_end(), want);
+    Ok(())
+}
+
+// A binding, as `decl_1` prints it.
+#[test]
+fn a_binding_is_laid_out(rt: HostRuntime) -> Result<(), Fail> {
+    let want = "<{0-0 variable0-1 =1-2 one2-3 <}0-0";
+    agrees(&rt, rt.alloc(), b"x=1", want)
+}
+
+// A binding of a pattern, as `decl_2` prints it.
+#[test]
+fn a_pattern_is_laid_out(rt: HostRuntime) -> Result<(), Fail> {
+    let want = "<{0-0 (0-1 variable1-2 ,2-3 variable3-4 )4-5 =5-6 variable6-7 <}0-0";
+    agrees(&rt, rt.alloc(), b"(x,y)=e", want)
+}
+
+// A `case` with two alternatives, the second with a guard, behind a left side.
+#[test]
+fn alternatives_are_laid_out(rt: HostRuntime) -> Result<(), Fail> {
+    let text = b"f=case x of\n  C y->y\n  _|a->b\n";
+    let head = "<{0-0 variable0-1 =1-2 case2-6 variable7-8 of9-11 <{0-0 constructor14-15";
+    let tail =
+        "variable16-17 ->17-19 variable19-20 <;0-0 _23-24 |24-25 variable25-26 ->26-28 variable28-29 <}0-0 <}0-0";
+    let alloc = rt.alloc();
+    let want = format!(in alloc; "{} {}", head, tail)?;
+    agrees(&rt, alloc, text, want.as_str())
+}
+
+// An empty file, as `module_0` prints it.
+#[test]
+fn an_empty_file_is_laid_out(rt: HostRuntime) -> Result<(), Fail> {
+    agrees(&rt, rt.alloc(), b"", "<{0-0 <}0-0")
 }

@@ -2,6 +2,7 @@ pub mod Examples
 pub mod Insts
 pub mod Solved
 pub mod Reading
+pub mod Drawn
 pub mod Tables
 pub mod Steps
 pub mod Going

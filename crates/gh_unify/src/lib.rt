@@ -5,6 +5,8 @@ mod solving;
 mod table;
 #[cfg(test)]
 mod tests;
+#[cfg(test)]
+mod trial;
 mod unifier;
 
 pub use unifier::{Unifier, UnifyFault};

@@ -1,5 +1,5 @@
-use Rattle.std.proofs.Common.{rules, arith, ◌≡◌, sym, ap, ◌∙◌}
-use Rattle.gh_tree.specs.Depth.{capped, capped_sum, deepest, aexp_depth, alt_guard_depth, alt_item_depth, decl_item_depth, guard_depth, next_operand_depth, part_depth, redef_item_depth}
+use Rattle.std.proofs.Common.{arith, sym, ap, ◌∙◌}
+use Rattle.gh_tree.specs.Depth.{capped, capped_sum, aexp_depth, alt_guard_depth, alt_item_depth, decl_item_depth, guard_depth, next_operand_depth, part_depth, redef_item_depth}
 use Rattle.gh_tree.proofs.Capped.{push_deepest}
 use Rattle.gh_tree.proofs.DepthAt.{next_operand_at, redef_item_at, decl_item_at, alt_item_at, part_at, redef_at}
 use Rattle.gh_tree.proofs.depth.+exps.Goals as goal

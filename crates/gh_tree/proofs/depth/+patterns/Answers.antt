@@ -1,5 +1,5 @@
-use Rattle.std.proofs.Common.{rules, arith, ◌≡◌, sym, ap, ◌∙◌}
-use Rattle.gh_tree.specs.Depth.{capped, deepest, arg_pattern_depth, next_pattern_depth, pat_part_depth}
+use Rattle.std.proofs.Common.{arith, sym, ◌∙◌}
+use Rattle.gh_tree.specs.Depth.{arg_pattern_depth, next_pattern_depth, pat_part_depth}
 use Rattle.gh_tree.proofs.Capped.{push_deepest}
 use Rattle.gh_tree.proofs.DepthAt.{next_pattern_at, pat_part_at}
 use Rattle.gh_tree.proofs.depth.+patterns.Goals as goal

@@ -1,5 +1,5 @@
-use Rattle.std.proofs.Common.{rules, arith, ◌≡◌, sym, ap, ◌∙◌}
-use Rattle.gh_tree.specs.Depth.{capped, deepest, arg_type_depth, arrow_depth, type_part_depth}
+use Rattle.std.proofs.Common.{arith, sym, ◌∙◌}
+use Rattle.gh_tree.specs.Depth.{arg_type_depth, arrow_depth, type_part_depth}
 use Rattle.gh_tree.proofs.Capped.{push_deepest}
 use Rattle.gh_tree.proofs.DepthAt.{arrow_at, type_part_at}
 use Rattle.gh_tree.proofs.depth.+types.Goals as goal

@@ -1,4 +1,4 @@
-use Rattle.std.proofs.Common.{rules, arith, ◌≡◌, ℕ}
+use Rattle.std.proofs.Common.{arith, ℕ}
 use Rattle.gh_tree.specs.Depth.{constr_depth}
 use Rattle.gh_tree.specs.declared.tops.NextConstr.{NextConstr}
 use Rattle.gh_tree.proofs.Capped.{push_deepest}

@@ -1,4 +1,4 @@
-use Rattle.std.proofs.Common.{rules, arith, ◌≡◌, ℕ}
+use Rattle.std.proofs.Common.{arith, ℕ}
 use Rattle.gh_tree.specs.Depth.{item_depth}
 use Rattle.gh_tree.specs.declared.module_tree.NextItem.{NextItem}
 use Rattle.gh_tree.proofs.Capped.{push_deepest}

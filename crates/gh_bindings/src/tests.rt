@@ -1,0 +1,89 @@
+// A small program, worked out by hand.
+use crate::{Binding, Operand, core_of};
+use gh_base::fixed::{APPEND, MAIN, MAIN_MODULE, PRELUDE};
+use gh_base::{ListOf, NameId, NoMemory, Origin, Space, Span, TyCon};
+use gh_core::{CoreName, CoreTerm, CoreType};
+use std::alloc::Global;
+use std::process::Abort;
+use std::test::Fail;
+
+const PLACE: Span = Span {
+    file: 1,
+    from: 20,
+    to: 31,
+};
+
+fn value(module: NameId, name: NameId) -> CoreName {
+    CoreName::Plain(Origin {
+        module,
+        space: Space::Values,
+        name,
+    })
+}
+
+// `main = "a" ++ main`
+fn binding(alloc: Global) -> Result<Binding, NoMemory> {
+    let mut operands = ListOf::new(alloc);
+    operands.push(Operand::Text(ListOf::from_slice(alloc, &['a'])?))?;
+    operands.push(Operand::Name(MAIN, PLACE))?;
+    Ok(Binding {
+        name: MAIN,
+        span: PLACE,
+        operands,
+    })
+}
+
+fn is_global(term: &CoreTerm, wanted: CoreName) -> bool {
+    match term {
+        CoreTerm::Global(name) => *name == wanted,
+        _ => false,
+    }
+}
+
+fn is_text(term: &CoreTerm) -> bool {
+    match term {
+        CoreTerm::Str(chars) => chars.as_slice() == ['a'].as_slice(),
+        _ => false,
+    }
+}
+
+// `++` at the type of characters
+fn is_append(term: &CoreTerm) -> bool {
+    match term {
+        CoreTerm::TyApp(function, CoreType::Con(TyCon::Char)) => {
+            is_global(function.get(), value(PRELUDE, APPEND))
+        }
+        _ => false,
+    }
+}
+
+fn is_joined(term: &CoreTerm) -> bool {
+    match term {
+        CoreTerm::App(partial, right) => {
+            is_begun(partial.get()) && is_global(right.get(), value(MAIN_MODULE, MAIN))
+        }
+        _ => false,
+    }
+}
+
+// `++` with its first operand
+fn is_begun(term: &CoreTerm) -> bool {
+    match term {
+        CoreTerm::App(function, left) => is_append(function.get()) && is_text(left.get()),
+        _ => false,
+    }
+}
+
+#[test]
+fn joins_operands(rt: HostRuntime) -> Result<(), Fail> {
+    let alloc = rt.alloc();
+    let core = core_of(alloc, &[binding(alloc)?])?;
+    assert!(rt; core.decls.as_slice().len() == 1);
+    assert!(rt; is_global(&core.main, value(MAIN_MODULE, MAIN)));
+    let defs = core.defs.as_slice();
+    assert!(rt; defs.len() == 2);
+    assert!(rt; defs[0].name == value(PRELUDE, APPEND));
+    assert!(rt; defs[1].name == value(MAIN_MODULE, MAIN));
+    assert!(rt; is_joined(&defs[1].term));
+    Ok(())
+}

@@ -1,0 +1,15 @@
+pub mod Chains
+pub mod Examples
+pub mod Fields
+pub mod FixedCount
+pub mod Forms
+pub mod KindsRead
+pub mod Letrec
+pub mod Nearest
+pub mod Places
+pub mod Pushed
+pub mod Shapes
+pub mod Shows
+pub mod TypeForms
+pub mod TypesRead
+pub mod Words

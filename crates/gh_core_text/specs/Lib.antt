@@ -1,0 +1,4 @@
+pub mod Levels
+pub mod Needs
+pub mod Text
+pub mod Shown

@@ -1,0 +1,17 @@
+pub mod BuiltIn
+pub mod Closing
+pub mod Conversions
+pub mod Erase
+pub mod Instances
+pub mod Laws
+pub mod Meaning
+pub mod Programs
+pub mod Read
+pub mod Reading
+pub mod States
+pub mod Steps
+pub mod Modules
+pub mod Nodes
+pub mod Terms
+pub mod Types
+pub mod Typing

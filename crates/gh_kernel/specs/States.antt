@@ -1,0 +1,173 @@
+-- States of the type-passing meaning, and the place that is demanded.
+use Rattle.std.specs.Prelude.{ℕ, Bool, true, false, List, [], ◌∷◌, Option, Some, None}
+use Rattle.gh_base.specs.declared.place.Origin.{Origin}
+use Rattle.gh_base.specs.declared.place.Span.{Span}
+use Rattle.gh_core.specs.Primitives.{Unary, Binary, same_origin, nil, cons}
+use Rattle.gh_core.specs.Reduce.{Status, running, ended, failed, string_con}
+use Rattle.gh_core.specs.Terms.{Literal, char}
+use Rattle.gh_kernel.specs.Closing.{Env, empty}
+use Rattle.gh_kernel.specs.Programs.{Exp}
+use Rattle.gh_kernel.specs.Terms.{Pat, Pats, no_pat, pat, Expr, var, top, con, lit, string, lam, app, lets, cases, call, redef, ann, whole, contents, convert, Exprs, no_expr, expr, Groups, no_group, group, Rows, no_row, row, Bodies, no_body, always, guarded}
+
+-- what a case goes on with where the row at hand fails: the rows after it, on the arguments as they were
+pub record Rest : Type 0 where
+  pub place : Span
+  pub args : Exprs Span
+  pub rows : Rows Span
+
+-- a row that is being matched
+pub record Trial : Type 0 where
+  -- the patterns that are still to be matched, with the terms that they meet
+  pub todo : List (Pat Span × Exp)
+  -- the variables that are bound so far
+  pub bound : Env Span
+  pub groups : Groups Span
+  pub bodies : Bodies Span
+  pub rest : Rest
+
+-- what is done next
+pub data Focus : Type 0 where
+  -- a term is evaluated
+  eval : (e : Exp) → Focus
+  -- a row is matched, or its groups are entered
+  matching : (t : Trial) → Focus
+  -- a row has failed
+  falling : (r : Rest) → Focus
+
+-- what waits for the term that is evaluated
+pub data Waiting : Type 0 where
+  -- it is applied to this
+  arg : (e : Exp) → Waiting
+  -- what stands under this constructor of a newtype goes on
+  under : (c : Origin) → Waiting
+  -- it is tested against this constructor, whose arguments then meet the patterns
+  tested : (c : Origin) (ps : Pats Span) (t : Trial) → Waiting
+  -- it is tested against this literal
+  compared : (l : Literal) (t : Trial) → Waiting
+  -- it decides whether this goes on, or else the bodies after it
+  decides : (e : Exp) (more : Bodies Span) (r : Rest) → Waiting
+  -- it is the operand of a primitive
+  only : (u : Unary) (place : Span) → Waiting
+  -- it is the first operand, and this the second
+  first : (b : Binary) (place : Span) (e : Exp) → Waiting
+  -- it is the second operand, and this the first
+  second : (b : Binary) (place : Span) (l : Literal) → Waiting
+  -- it is a character to print, and these come after it
+  printing : (rest : Exp) → Waiting
+
+-- what is done, what waits for it, the innermost first, and the bytes that were printed
+pub record State : Type 0 where
+  pub focus : Focus
+  pub stack : List Waiting
+  pub out : List ℕ
+  pub status : Status
+
+abbrev pub at : Focus → List Waiting → List ℕ → State
+at focus stack out = record { focus = focus; stack = stack; out = out; status = running }
+
+abbrev pub with_status : Status → State → State
+with_status status s = record { focus = s.focus; stack = s.stack; out = s.out; status = status }
+
+-- the head of a nest of applications; marks and annotations play no part
+abbrev pub head_of : Exp → Exp
+head_of (app n f e) = head_of f
+head_of (whole e) = head_of e
+head_of (ann n e s) = head_of e
+head_of e = e
+
+-- its arguments, before what waits already
+abbrev pub with_args : Exp → List Waiting → List Waiting
+with_args (app n f e) stack = with_args f (arg e ∷ stack)
+with_args (whole e) stack = with_args e stack
+with_args (ann n e s) stack = with_args e stack
+with_args e stack = stack
+
+-- the patterns with the terms that they meet
+abbrev pub meet : Pats Span → List Exp → List (Pat Span × Exp) → List (Pat Span × Exp)
+meet no_pat es todo = todo
+meet (pat p ps) [] todo = todo
+meet (pat p ps) (e ∷ es) todo = (p, e) ∷ meet ps es todo
+
+abbrev pub listed : Exprs Span → List Exp
+listed no_expr = []
+listed (expr e rest) = e ∷ listed rest
+
+-- an application of a constructor is a value: the constructor with its arguments
+abbrev pub reach_app : Exp → Exp → List Waiting → List Waiting → List ℕ → State
+reach_app (con n c) e args stack out = at (eval (con n c)) args out
+reach_app f e args stack out = at (eval e) stack out
+
+abbrev pub trial : List (Pat Span × Exp) → Groups Span → Bodies Span → Span → Exprs Span → Rows Span → Trial
+trial todo gs bs n es rest = record { todo = todo; bound = empty; groups = gs; bodies = bs; rest = record { place = n; args = es; rows = rest } }
+
+-- the place that the demand of a term comes to without any step: through marks and annotations, into the contents of
+-- newtypes, to the first pattern of a case, or to its first guard or body where there is nothing to match
+abbrev mutual
+  pub reach : Exp → List Waiting → List ℕ → State
+  reach (whole e) stack out = reach e stack out
+  reach (ann n e s) stack out = reach e stack out
+  reach (contents c e) stack out = reach e (under c ∷ stack) out
+  reach (cases n es rows) stack out = reach_rows n es rows stack out
+  reach (app n f e) stack out = reach_app (head_of f) (app n f e) (with_args f (arg e ∷ stack)) stack out
+  reach (var n x) stack out = at (eval (var n x)) stack out
+  reach (top n x) stack out = at (eval (top n x)) stack out
+  reach (con n c) stack out = at (eval (con n c)) stack out
+  reach (lit n l) stack out = at (eval (lit n l)) stack out
+  reach (string n cs) stack out = at (eval (string n cs)) stack out
+  reach (lam n x body) stack out = at (eval (lam n x body)) stack out
+  reach (lets n gs body) stack out = at (eval (lets n gs body)) stack out
+  reach (call n w t) stack out = at (eval (call n w t)) stack out
+  reach (redef n k text table body) stack out = at (eval (redef n k text table body)) stack out
+  reach (convert n d h generic t) stack out = at (eval (convert n d h generic t)) stack out
+
+  pub reach_rows : Span → Exprs Span → Rows Span → List Waiting → List ℕ → State
+  reach_rows n es no_row stack out = at (falling (record { place = n; args = es; rows = no_row })) stack out
+  reach_rows n es (row no_pat no_group bs rest) stack out = reach_bodies bs (record { place = n; args = es; rows = rest }) stack out
+  reach_rows n es (row no_pat (group g gs) bs rest) stack out = at (matching (trial [] (group g gs) bs n es rest)) stack out
+  reach_rows n es (row (pat p ps) gs bs rest) stack out = at (matching (trial (meet (pat p ps) (listed es) []) gs bs n es rest)) stack out
+
+  pub reach_bodies : Bodies Span → Rest → List Waiting → List ℕ → State
+  reach_bodies no_body r stack out = at (falling r) stack out
+  reach_bodies (always e more) r stack out = reach e stack out
+  reach_bodies (guarded g e more) r stack out = reach g (decides e more r ∷ stack) out
+
+-- the arguments that wait, the first first, and what waits behind them
+abbrev pub args_of : List Waiting → List Exp
+args_of (arg e ∷ stack) = e ∷ args_of stack
+args_of stack = []
+
+abbrev pub after_args : List Waiting → List Waiting
+after_args (arg e ∷ stack) = after_args stack
+after_args stack = stack
+
+-- a string counts as its list of characters
+abbrev pub string_args : Span → List ℕ → List Exp
+string_args n [] = []
+string_args n (c ∷ cs) = lit n (char c) ∷ string n cs ∷ []
+
+-- the printed list as far as it is known: at its end the run has ended, and at a cell the character is demanded
+abbrev pub list_cell : Bool → Bool → List Exp → State → State
+list_cell true isCons [] s = with_status ended s
+list_cell false true (e ∷ rest ∷ []) s = reach e (printing rest ∷ []) s.out
+list_cell isNil isCons es s = s
+
+abbrev pub printed_list : Origin → List Exp → List Waiting → State → State
+printed_list c es [] s = list_cell (same_origin c nil) (same_origin c cons) es s
+printed_list c es (w ∷ ws) s = s
+
+abbrev pub settled_at : Focus → State → State
+settled_at (eval (con n c)) s = printed_list c (args_of s.stack) (after_args s.stack) s
+settled_at (eval (string n cs)) s = printed_list (string_con cs) (string_args n cs) s.stack s
+settled_at focus s = s
+
+-- where nothing waits, a term is the list that is printed
+abbrev pub settled : State → State
+settled s = settled_at s.focus s
+
+-- the demand of a term
+abbrev pub demand : Exp → List Waiting → List ℕ → State
+demand e stack out = settled (reach e stack out)
+
+-- the demand of a row's bodies
+abbrev pub choose : Bodies Span → Rest → List Waiting → List ℕ → State
+choose bs r stack out = settled (reach_bodies bs r stack out)

@@ -1,0 +1,23 @@
+//! The kernel language.
+#![tactic(auto)]
+
+mod copies;
+mod erasing;
+mod functions;
+mod kernel;
+mod laws;
+mod names;
+mod patterns;
+mod signatures;
+mod terms;
+#[cfg(test)]
+mod tests;
+
+pub use erasing::erase;
+pub use functions::{Dependency, Extension, GenFun};
+pub use kernel::{Binding, CaseBody, Kernel};
+pub use laws::{run_laws, substitution_laws};
+pub use names::{Head, Lit, TopName, VarName};
+pub use patterns::{Pattern, PatternNode};
+pub use signatures::{Note, Signed};
+pub use terms::{LocalBinding, Row, Term, TermNode};

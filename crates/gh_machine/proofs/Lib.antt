@@ -1,0 +1,9 @@
+pub mod Bound
+pub mod Entered
+pub mod Envs
+pub mod Looks
+pub mod Moves
+pub mod Picks
+pub mod Prefix
+pub mod Runs
+pub mod Stacks

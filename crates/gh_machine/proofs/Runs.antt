@@ -1,0 +1,80 @@
+-- One reduction after another.
+use Rattle.std.proofs.Common.{◌≡◌, ℕ, zero, suc, ◌+◌, ◌-◌, ◌*◌, ◌≤◌, refl, sym, ap, ◌∙◌, arith, add-one, vec_len, vec_capacity}
+use Rattle.gh_core.specs.Reduce.{State, Program, Status, running, ended, failed, reduce, reduce_in, reductions}
+use Rattle.gh_core.specs.Primitives.{Cause}
+use Rattle.gh_base.specs.declared.place.Span.{Span}
+use Rattle.gh_core.specs.Run.{program_of}
+use Rattle.gh_machine.specs.Sound.{IsHeld, HasRoom, Leads, state_of, program_in}
+use Rattle.gh_machine.specs.declared.parts.Parts.{Parts}
+
+-- after so many reductions
+pub record IsRun (n : ℕ) (start now : Parts) : Type 0 where
+  pub held : IsHeld now
+  pub state : state_of now ≡ reductions (program_in start) n (state_of start)
+  pub program : now.program.now ≡ start.program.now
+  pub room : (m : ℕ) → HasRoom (n + m) start → HasRoom m now
+
+pub less_room : (n m : ℕ) (p : Parts) → m ≤ n → HasRoom n p → HasRoom m p
+less_room n m p le h = record { cells = let a = h.cells in omega arith; few = let a = h.few in omega arith; stack = let a = h.stack in omega arith; pending = let a = h.pending in omega arith }
+
+pub run_none : (p : Parts) → IsHeld p → IsRun 0 p p
+unfolding reductions
+run_none p s = record { held = s; state = refl; program = refl; room = λ m h. less_room (0 + m) m p (omega arith) h }
+
+pub reductions_more : (p : Program) (n : ℕ) (s : State) → reductions p (suc n) s ≡ reduce p (reductions p n s)
+unfolding reductions
+reductions_more p zero s = refl
+reductions_more p (suc n) s = reductions_more p n (reduce p s)
+
+-- so many, and then so many more
+pub reductions_add : (p : Program) (m n : ℕ) (s : State) → reductions p n (reductions p m s) ≡ reductions p (m + n) s
+unfolding reductions
+reductions_add p zero n s = let e : n ≡ zero + n = omega arith in ap (λ k. reductions p k s) e
+reductions_add p (suc m) n s =
+    let e : suc (m + n) ≡ suc m + n = omega arith in
+    reductions_add p m n (reduce p s) ∙ ap (λ k. reductions p k s) e
+
+pub reductions_zero : (p : Program) (s : State) → reductions p 0 s ≡ s
+unfolding reductions
+reductions_zero p s = refl
+
+pub run_more : (n : ℕ) (start now next : Parts) → IsRun n start now → Leads now next (reduce (program_in now) (state_of now)) → IsRun (n + 1) start next
+run_more n start now next r l = record {
+  held = l.held;
+  state = l.state ∙ (λ i. reduce (program_of (r.program i)) (r.state i)) ∙ sym (reductions_more (program_in start) n (state_of start)) ∙ ap (λ k. reductions (program_in start) k (state_of start)) (sym (add-one n));
+  program = l.program ∙ r.program;
+  room = λ m h. let k = r.room (suc m) (less_room (n + 1 + m) (n + suc m) start (omega arith) h) in record {
+    cells = let a = k.cells in let b = l.total in let d = l.cells_capacity in omega arith;
+    few = let a = k.few in let b = l.total in omega arith;
+    stack = let a = k.stack in let b = l.stack in let d = l.stack_capacity in omega arith;
+    pending = let a = k.pending in let b = l.pending in let d = l.pending_capacity in omega arith;
+  };
+}
+
+-- a run that has ended or failed stays
+pub stays_ended : (p : Program) (n : ℕ) (s : State) → s.status ≡ ended → reductions p n s ≡ s
+unfolding reductions
+stays_ended p zero s e = refl
+stays_ended p (suc n) s e = ap (reductions p n) (reduced p s.status s e) ∙ stays_ended p n s e
+  where
+    reduced : (p : Program) (status : Status) (s : State) → status ≡ ended → reduce_in p status s ≡ s
+    reduced p ended s e = refl
+    reduced p running s e = absurd (let no : ⊥ = cc in no)
+    reduced p (failed cause place) s e = refl
+
+pub stays_failed : (p : Program) (n : ℕ) (s : State) (cause : Cause) (place : Span) → s.status ≡ failed cause place → reductions p n s ≡ s
+unfolding reductions
+stays_failed p zero s cause place e = refl
+stays_failed p (suc n) s cause place e = ap (reductions p n) (reduced p s.status s cause place e) ∙ stays_failed p n s cause place e
+  where
+    reduced : (p : Program) (status : Status) (s : State) (cause : Cause) (place : Span) → status ≡ failed cause place → reduce_in p status s ≡ s
+    reduced p ended s cause place e = refl
+    reduced p running s cause place e = absurd (let no : ⊥ = cc in no)
+    reduced p (failed c q) s cause place e = refl
+
+-- the run is over before all reductions are made
+pub run_over : (n k : ℕ) (start now : Parts) → IsRun n start now → n ≤ k → ((m : ℕ) → reductions (program_in start) m (state_of now) ≡ state_of now) → state_of now ≡ reductions (program_in start) k (state_of start)
+run_over n k start now r le stay =
+    let e : n + (k - n) ≡ k = omega arith in
+    sym (ap (λ j. reductions (program_in start) j (state_of start)) (sym e) ∙ sym (reductions_add (program_in start) n (k - n) (state_of start))
+    ∙ ap (reductions (program_in start) (k - n)) (sym r.state) ∙ stay (k - n))

@@ -1,0 +1,18 @@
+use Rattle.std.proofs.Common.{length, sym, subst}
+use Rattle.gh_machine.specs.Stacks.{AreWithin}
+use Rattle.gh_machine.proofs.parts.Parts.operate.Goals as goal
+
+pub wait_without-requires-clause-within : goal.wait_without-requires-clause-within
+wait_without-requires-clause-within c =
+    let n = length c.args.self.now.cells.items in
+    c.in-Some-arg_at.ensures.within n (subst (AreWithin n) (sym c.deref.ensures.value) c.requires.held.stack)
+
+pub wait_without-requires-in-Some-arg_at-2-clause-frame : goal.wait_without-requires-in-Some-arg_at-2-clause-frame
+wait_without-requires-in-Some-arg_at-2-clause-frame c =
+    let n = length c.args.self.now.cells.items in
+    c.in-Some-arg_at-2.ensures.within n (subst (AreWithin n) (sym c.deref-in-Binary.ensures.value) c.requires.held.stack)
+
+pub wait_without-requires-in-Some-arg_at-2-clause-within : goal.wait_without-requires-in-Some-arg_at-2-clause-within
+wait_without-requires-in-Some-arg_at-2-clause-within c =
+    let n = length c.args.self.now.cells.items in
+    c.in-Some-arg_at.ensures.within n (subst (AreWithin n) (sym c.deref.ensures.value) c.requires.held.stack)

@@ -1,0 +1,22 @@
+use Rattle.std.proofs.Common.{◌≡◌, ◌-◌, ◌+◌, ◌<◌, ◌≤◌, ℕ, suc, length, take, drop, get_or, [], ◌∷◌, ◌++◌, refl, sym, ap, ◌∙◌, subst, arith, add-one, drop-cons, vec_len, length-drop}
+use Rattle.gh_core.specs.Reduce.{at, printing}
+use Rattle.gh_machine.specs.Unload.{envs_of, closed_in}
+use Rattle.gh_machine.proofs.Stacks.{stack_empty}
+use Rattle.gh_machine.proofs.parts.Parts.print_next.Goals as goal
+
+pub returns : goal.returns
+returns c =
+    let cells = c.args.self.now.cells.items in
+    let envs = envs_of cells in
+    let none : length c.args.self.now.stack.items ≡ 0 = omega (arith, c.args.self.now.stack.ok.0) in
+    record {
+      held = record { cells = c.requires.held.cells; demand = c.requires.first; stack = c.push_frame.ensures.within (length cells) c.requires.held.stack c.requires.rest };
+      state = ap (λ ws. at (closed_in envs c.args.pair.first) ws c.args.self.now.pending.items) (c.push_frame.ensures.stack envs ∙ ap (λ ws. printing (closed_in envs c.args.pair.rest) ∷ ws) (stack_empty envs c.args.self.now.stack.items none));
+      program = refl;
+      cells = refl;
+      stack = omega arith;
+      pending = refl;
+      cells_capacity = omega arith;
+      stack_capacity = omega arith;
+      pending_capacity = omega arith;
+    }

@@ -1,0 +1,21 @@
+use Rattle.std.proofs.Common.{◌≡◌, ◌≤◌, length, [], drop, refl, sym, ap, ◌∙◌, arith, subst}
+use Rattle.gh_core.specs.Reading.{term_of}
+use Rattle.gh_core.specs.Closing.{close, put}
+use Rattle.gh_core.specs.Reduce.{demand}
+use Rattle.gh_machine.specs.Unload.{envs_of, env_in, env_of, code_in, closed_in}
+use Rattle.gh_machine.specs.Sound.{IsBound}
+use Rattle.gh_machine.proofs.Bound.{bound_two}
+use Rattle.gh_machine.proofs.Moves.{held_bound, led_bound}
+use Rattle.gh_machine.proofs.parts.Parts.take_pair.Goals as goal
+
+pub go_without-requires-clause-held : goal.go_without-requires-clause-held
+go_without-requires-clause-held c =
+    let p = c.args.self.now in
+    let le : env_of c.args.pair.first ≤ length p.cells.items = omega (arith, c.requires.first) in
+    held_bound p _ _ _ c.requires.held (bound_two _ _ _ _ _ _ _ _ c.bind-below.ensures.bound c.bind-top.ensures.bound le) refl refl
+
+pub returns : goal.returns
+returns c =
+    let p = c.args.self.now in
+    let le : env_of c.args.pair.first ≤ length p.cells.items = omega (arith, c.requires.first) in
+    led_bound p (record { program = c.args.self.now.program; cells = c.bind-top.new.cells; stack = c.args.self.now.stack; demand = c.args.self.now.demand; turn = c.args.self.now.turn; pending = c.args.self.now.pending }) c.go_without.new.self 1 c.bind-top.result (term_of c.args.body.now) _ _ c.requires.held (bound_two _ _ _ _ _ _ _ _ c.bind-below.ensures.bound c.bind-top.ensures.bound le) refl refl refl (omega arith) c.go_without.ensures.leads (omega (arith, c.go_without.ensures.less, c.bind-below.ensures.len, c.bind-top.ensures.len)) refl

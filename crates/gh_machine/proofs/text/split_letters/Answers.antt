@@ -1,0 +1,19 @@
+use Rattle.std.proofs.Common.{◌≡◌, ◌-◌, ◌+◌, ◌<◌, ◌≤◌, ℕ, suc, length, take, drop, get_or, [], ◌∷◌, ◌++◌, refl, sym, ap, ◌∙◌, subst, arith, add-one, drop-cons, vec_len}
+use Rattle.gh_core.specs.Reading.{term_of}
+use Rattle.gh_machine.specs.Unload.{chars_in}
+use Rattle.gh_machine.proofs.text.split_letters.Goals as goal
+
+pub returns-then-at-chars_of : goal.returns-then-at-chars_of
+returns-then-at-chars_of c =
+    let cs = chars_in (term_of c.args.term.now) in
+    let i = c.args.at in
+    let n = ap length c.chars_of.ensures in
+    record {
+      c = get_or cs i 0;
+      more = drop (i + 1) cs;
+      cs = drop-cons cs i 0 (omega arith) ∙ ap (λ k. get_or cs i 0 ∷ drop k cs) (sym (add-one i));
+      first = refl;
+      rest = refl;
+      first_env = refl;
+      rest_env = refl;
+    }

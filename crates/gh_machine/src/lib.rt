@@ -1,0 +1,19 @@
+//! A machine that makes the reductions of core with environments, and substitutes nothing.
+#![tactic(auto)]
+
+mod bind;
+mod closure;
+mod look;
+mod machine;
+mod parts;
+mod pick;
+mod primitive;
+mod stack;
+mod step;
+#[cfg(test)]
+mod tests;
+mod text;
+mod turn;
+
+pub use machine::Machine;
+pub use turn::{Stop, StopCause, Turn};

@@ -1,0 +1,8 @@
+use Rattle.std.proofs.Common.{◌≡◌, ◌-◌}
+use Rattle.gh_tree.specs.ReadTypes.{begins_arg, arg_type, arg_types, type_expr}
+use Rattle.gh_tree.specs.Read.{many}
+use Rattle.gh_tree.proofs.Loops.{with_front}
+use Rattle.gh_parse_types.proofs.types.Reader.arg_types.Given as goal
+
+abbrev pub invariant-loop-turn : goal.invariant-loop-turn
+invariant-loop-turn g l = arg_types (type_expr l.self.depth) l.fn.tokens ≡ with_front l.found (many begins_arg (arg_type (type_expr l.self.depth)) (l._turn-end - l._turn) l.tokens)

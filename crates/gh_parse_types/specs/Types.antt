@@ -1,0 +1,27 @@
+-- What the reader of types promises.
+use Rattle.std.specs.Prelude.{◌≡◌, ℕ, List, Result, IsTrue}
+use Rattle.std.specs.declared.alloc.Global.{Global}
+use denote.Ref.{MutBor}
+use Rattle.gh_tree.specs.declared.symbol.Sym.{Sym}
+use Rattle.gh_tree.specs.declared.types.TypeExpr.{TypeExpr}
+use Rattle.gh_tree.specs.Print as printed
+use Rattle.gh_tree.specs.ReadTypes.{type_expr}
+use Rattle.gh_reader.specs.Reads.{Reads}
+use Rattle.gh_reader.specs.declared.stop.Stop.{Stop}
+use Rattle.gh_reader.specs.declared.stop.Stop.TheVariants as stop
+
+-- a function that reads types to a depth
+pub record Nests (depth : ℕ) (pre : Global → MutBor (List Sym) → ℕ → Type 0)
+    (post : Global → MutBor (List Sym) → ℕ → Result TypeExpr Stop → MutBor (List Sym) → Type 0) : Type 0 where
+  pub callable : (alloc : Global) (old : MutBor (List Sym)) → pre alloc old depth
+  pub reads : (alloc : Global) (old new : MutBor (List Sym)) (r : Result TypeExpr Stop) → post alloc old depth r new
+      → Reads (type_expr depth old.now) r new.now
+
+-- these tokens are those of a well-formed type
+abbrev pub Spells : List Sym → TypeExpr → Type 0
+Spells ss t = IsTrue (printed.type_expr t).good × ((printed.type_expr t).flat ≡ ss)
+
+-- no well-formed type has these tokens
+abbrev pub Refuses : Stop → List Sym → Type 0
+Refuses stop.NoParse ss = (t : TypeExpr) → Spells ss t → ⊥
+Refuses stop.NoMemory ss = Unit {0}

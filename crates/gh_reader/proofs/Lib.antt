@@ -1,0 +1,4 @@
+pub mod Ends
+pub mod Loop
+pub mod NamesSound
+pub mod Sound
