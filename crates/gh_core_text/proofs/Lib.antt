@@ -8,6 +8,7 @@ pub mod Letrec
 pub mod Nearest
 pub mod Places
 pub mod Pushed
+pub mod SameByText
 pub mod Shapes
 pub mod Shows
 pub mod TypeForms

@@ -28,20 +28,20 @@ module _ (P : CoreType → Type 0)
   type_induction = ind-CoreType P (λ x y is. subst (λ z. P (roll-CoreType z)) is (type_layer y))
 
 module _ (table : Table) where
-  shown-Var : (x : ℕ) (ts : Scope) → shown table (t.Var x) ts ≡ var (level_of ts x)
+  pub shown-Var : (x : ℕ) (ts : Scope) → shown table (t.Var x) ts ≡ var (level_of ts x)
   shown-Var x ts = ap (λ u. shown table u ts) (sym (t.rolls-Var x)) ∙ ap (λ s. s ts) (fold-roll-CoreType (Scope → Shown) (shown_step table) (CoreType-F.Var x))
 
-  shown-Con : (c : TyCon) (ts : Scope) → shown table (t.Con c) ts ≡ con (tycon_text table c)
+  pub shown-Con : (c : TyCon) (ts : Scope) → shown table (t.Con c) ts ≡ con (tycon_text table c)
   shown-Con c ts = ap (λ u. shown table u ts) (sym (t.rolls-Con c)) ∙ ap (λ s. s ts) (fold-roll-CoreType (Scope → Shown) (shown_step table) (CoreType-F.Con c))
 
-  shown-App : (f y : CoreType) (ts : Scope) → shown table (t.App f y) ts ≡ app (shown table f ts) (shown table y ts)
+  pub shown-App : (f y : CoreType) (ts : Scope) → shown table (t.App f y) ts ≡ app (shown table f ts) (shown table y ts)
   shown-App f y ts = ap (λ u. shown table u ts) (sym (t.rolls-App f y)) ∙ ap (λ s. s ts) (fold-roll-CoreType (Scope → Shown) (shown_step table) (CoreType-F.App f y))
 
-  shown-Forall : (x : ℕ) (k : Kind) (b : CoreType) (ts : Scope) → shown table (t.Forall x k b) ts ≡ all k (shown table b (within ts x))
+  pub shown-Forall : (x : ℕ) (k : Kind) (b : CoreType) (ts : Scope) → shown table (t.Forall x k b) ts ≡ all k (shown table b (within ts x))
   shown-Forall x k b ts =
       ap (λ u. shown table u ts) (sym (t.rolls-Forall x k b)) ∙ ap (λ s. s ts) (fold-roll-CoreType (Scope → Shown) (shown_step table) (CoreType-F.Forall x k b))
 
-  shown-Any : (k : Kind) (ts : Scope) → shown table (t.Any k) ts ≡ any k
+  pub shown-Any : (k : Kind) (ts : Scope) → shown table (t.Any k) ts ≡ any k
   shown-Any k ts = ap (λ u. shown table u ts) (sym (t.rolls-Any k)) ∙ ap (λ s. s ts) (fold-roll-CoreType (Scope → Shown) (shown_step table) (CoreType-F.Any k))
 
   length_within : (ts : Scope) (x : ℕ) → length (within ts x) ≡ suc (length ts)

@@ -9,5 +9,5 @@ mod terms;
 mod tests;
 mod types;
 
-pub use laws::{kinds_by_text, types_by_text};
+pub use laws::{kinds_by_text, same_types_by_text, types_by_text};
 pub use program::core_text;

@@ -1,8 +1,8 @@
 -- Worked runs of the type-passing meaning, with their numbers of steps counted by hand.
-use Rattle.std.proofs.Common.{◌≡◌, ℕ, pos, true, false, List, [], ◌∷◌, Option, Some, None, refl}
+use Rattle.std.proofs.Common.{◌≡◌, ℕ, pos, true, false, List, [], ◌∷◌, None, refl}
 use Rattle.std.specs.Prelude.{codes}
 use Rattle.std.specs.Char.{encode_utf8}
-use Rattle.gh_base.specs.declared.fixed.TheConstants.{MAIN_MODULE, MAIN, PRELUDE, PLUS, ERROR, CON, TRUE, FALSE, UNIT, SUM, PROD, PRODUCT, INL, INR, LIST, CON_DESCR}
+use Rattle.gh_base.specs.declared.fixed.TheConstants.{MAIN_MODULE, PRELUDE, PLUS, ERROR, CON, FALSE, UNIT, SUM, INL, INR, LIST, CON_DESCR}
 use Rattle.gh_base.specs.declared.names.NameId.{NameId}
 use Rattle.gh_base.specs.declared.place.Origin.{Origin}
 use Rattle.gh_base.specs.declared.place.Span.{Span}
@@ -14,46 +14,45 @@ use Rattle.gh_core.specs.Run.{Seen}
 use Rattle.gh_core.specs.Terms.{int, char}
 use Rattle.gh_kernel.specs.declared.names.Head.TheVariants.{Of, Layer}
 use Rattle.gh_kernel.specs.declared.names.TopName.TheVariants.{Named}
-use Rattle.gh_kernel.specs.Terms.{Pat, pvar, pwild, pcon, plit, pas, Pats, no_pat, pat, TypeTerm, tycon, tyvar, tyapp, tyname, tylocal, Expr, var, top, con, lit, string, lam, app, lets, cases, call, redef, Exprs, no_expr, expr, Groups, no_group, group, bind, no_bind, Rows, no_row, row, Bodies, no_body, always, guarded, Table, no_entry, entry}
-use Rattle.gh_kernel.specs.Programs.{Exp, Constructor, Datatype, Function, Case, Program}
-use Rattle.gh_kernel.specs.States.{State}
+use Rattle.gh_kernel.specs.Terms.{Pat, pvar, pwild, pcon, plit, pas, Pats, no_pat, pat, TypeTerm, tycon, tyvar, tyapp, tyname, var, top, con, lit, string, lam, app, lets, cases, call, redef, no_expr, expr, no_group, group, bind, no_bind, Rows, no_row, row, no_body, always, guarded, no_entry, entry}
+use Rattle.gh_kernel.specs.Programs.{Exp, Datatype, Function, Case, Program}
 use Rattle.gh_kernel.specs.Steps.{steps}
-use Rattle.gh_kernel.specs.Meaning.{seen, start, meaning}
+use Rattle.gh_kernel.specs.Meaning.{meaning}
 
-abbrev n : Span
+abbrev pub n : Span
 n = record { file = 1; from = 0; to = 1 }
 
 abbrev here : Span
 here = record { file = 1; from = 4; to = 9 }
 
-abbrev number : ℕ → NameId
+abbrev pub number : ℕ → NameId
 number k = record { 0 = k }
 
-abbrev own : ℕ → Origin
+abbrev pub own : ℕ → Origin
 own k = record { «module» = MAIN_MODULE; space = Values; name = number k }
 
-abbrev own_type : ℕ → Origin
+abbrev pub own_type : ℕ → Origin
 own_type k = record { «module» = MAIN_MODULE; space = Types; name = number k }
 
-abbrev prelude_type : NameId → Origin
+abbrev pub prelude_type : NameId → Origin
 prelude_type k = record { «module» = PRELUDE; space = Types; name = k }
 
-abbrev named : Origin → TypeTerm Span
+abbrev pub named : Origin → TypeTerm Span
 named c = tycon (head.Named c)
 
-abbrev empty_program : Program
+abbrev pub empty_program : Program
 empty_program = record { texts = []; datatypes = []; bindings = []; functions = []; cases = []; extensions = [] }
 
-abbrev shows : List ℕ → Status → Seen
+abbrev pub shows : List ℕ → Status → Seen
 shows out status = record { out = out; status = status }
 
-abbrev text : List ℕ → Exp
+abbrev pub text : List ℕ → Exp
 text cs = string n cs
 
 abbrev no : Exp
 no = con n (prelude_value FALSE)
 
-abbrev one_pattern : Pat Span → Pats Span
+abbrev pub one_pattern : Pat Span → Pats Span
 one_pattern p = pat p no_pat
 
 abbrev case_of : Exp → Rows Span → Exp
@@ -89,7 +88,7 @@ pub as_pattern_before : meaning empty_program as_pattern 9 ≡ shows [] running
 unfolding steps encode_utf8
 as_pattern_before = refl
 
-abbrev con_type : Datatype
+abbrev pub con_type : Datatype
 con_type = record { name = prelude_type CON; is_newtype = true; constructors = record { name = prelude_value CON; fields = tyvar 0 ∷ [] } ∷ []; representation = tyvar 0 }
 
 abbrev with_con : Program
@@ -143,7 +142,7 @@ unfolding steps encode_utf8
 let_entered = refl
 
 -- generic calls. `g` has itself as dependency and the base type a -> Char
-abbrev g : Origin
+abbrev pub g : Origin
 g = own 0
 
 abbrev base : TypeTerm Span
@@ -152,18 +151,18 @@ base = tyapp (tyapp (tycon head.Arrow) (tyvar 0)) (tycon head.Char)
 abbrev g_function : Function
 g_function = record { name = g; generic = 1; base = base; dependencies = g ∷ [] }
 
-abbrev at_type : TypeTerm Span → Exp → Exp
+abbrev pub at_type : TypeTerm Span → Exp → Exp
 at_type t e = app n (call n g t) e
 
 -- a character in a list alone
-abbrev one_character : Exp → Exp
+abbrev pub one_character : Exp → Exp
 one_character e = app n (app n (con n cons) e) (con n nil)
 
 -- a case whose argument is matched by one pattern: one row, with its body
-abbrev one_clause : Pat Span → Exp → Rows Span → Exp
+abbrev pub one_clause : Pat Span → Exp → Rows Span → Exp
 one_clause p e rest = lam n 0 (cases n (expr (var n 0) no_expr) (row (one_pattern p) no_group (always e no_body) rest))
 
-abbrev for_type : Origin → Exp → Case
+abbrev pub for_type : Origin → Exp → Case
 for_type t e = record { function = g; head = Of (head.Named t); body = e }
 
 abbrev for_unit : Case
@@ -173,7 +172,7 @@ abbrev for_sum : Case
 for_sum = for_type (prelude_type SUM) (one_clause (pcon n (prelude_value INL) (one_pattern (pvar n 1))) (at_type (tyname 0) (var n 1))
     (row (one_pattern (pcon n (prelude_value INR) (one_pattern (pvar n 2)))) no_group (always (at_type (tyname 1) (var n 2)) no_body) no_row))
 
-abbrev layer : Origin → TypeTerm Span → TypeTerm Span
+abbrev pub layer : Origin → TypeTerm Span → TypeTerm Span
 layer c t = tyapp (tycon (head.ConOf c)) t
 
 -- data T = A | B, without a case

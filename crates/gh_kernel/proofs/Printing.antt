@@ -4,11 +4,9 @@ use Rattle.std.specs.Char.{encode_utf8}
 use Rattle.gh_base.specs.declared.place.Origin.{Origin}
 use Rattle.gh_base.specs.declared.place.Span.{Span}
 use Rattle.gh_base.specs.declared.place.TyCon.{TyCon}
-use Rattle.gh_base.specs.declared.names.NameId.{NameId}
 use Rattle.gh_core.specs.Primitives.{Primitive, error, unary, binary, Outcome, gives, fails, nothing, same_origin, nil, cons, prelude_value, unary_outcome, binary_outcome}
 use Rattle.gh_core.specs.Reduce.{Status, running, ended, failed, same_literal, string_con}
 use Rattle.gh_core.specs.Terms.{Literal, int, char}
-use Rattle.gh_core.specs.Terms as core
 use Rattle.gh_kernel.specs.declared.names.TopName.{TopName}
 use Rattle.std.specs.Prelude.{◌==◌, ◌&&◌, nat_le, length, drop}
 use Rattle.gh_base.specs.declared.fixed.TheConstants.{TRUE, FALSE}
@@ -18,9 +16,9 @@ use Rattle.gh_kernel.specs.Instances.{instance}
 use Rattle.gh_kernel.specs.Laws.{Extends}
 use Rattle.gh_kernel.specs.Meaning.{seen, meaning, start}
 use Rattle.gh_kernel.specs.Programs.{Exp, Program, is_newtype, bound_to}
-use Rattle.gh_kernel.specs.States.{Rest, Trial, Focus, eval, matching, falling, Waiting, arg, under, tested, compared, decides, only, first, second, printing, State, at, with_status, head_of, with_args, reach_app, reach, reach_rows, reach_bodies, meet, args_of, after_args, string_args, list_cell, printed_list, settled_at, settled, demand, choose}
-use Rattle.gh_kernel.specs.Steps.{go_on, goes_on, count, meet_constructor, match_pattern, enter_groups, match_next, fall, tell, decide, uncover, give, answer, go_to, conclude, print, supply, operands, operate, primitive_of, unfold_name, pass_all, pass_to, pass, enter, called, local_name, convert_to, act_eval, act_at, act_in, act, steps, with_todo}
-use Rattle.gh_kernel.specs.Terms.{Pat, pvar, pwild, pcon, plit, pstring, pas, Pats, no_pat, pat, Direction, TypeTerm, tylocal, Expr, var, top, con, lit, string, lam, app, lets, cases, call, redef, ann, whole, contents, convert, Exprs, Groups, no_group, group, Rows, no_row, row, Bodies, no_body, always, guarded, Table}
+use Rattle.gh_kernel.specs.States.{Rest, Trial, Focus, eval, matching, falling, Waiting, arg, under, tested, compared, decides, only, first, second, printing, State, head_of, with_args, reach_app, reach, reach_rows, reach_bodies, meet, args_of, after_args, string_args, list_cell, printed_list, settled_at, demand, choose}
+use Rattle.gh_kernel.specs.Steps.{go_on, goes_on, count, meet_constructor, match_pattern, match_next, fall, tell, decide, uncover, give, answer, go_to, conclude, print, supply, operands, operate, primitive_of, unfold_name, pass_all, pass_to, pass, enter, called, local_name, convert_to, act_eval, act_at, act_in, act, steps, with_todo}
+use Rattle.gh_kernel.specs.Terms.{Pat, pvar, pwild, pcon, plit, pstring, pas, Pats, no_pat, pat, Direction, TypeTerm, tylocal, var, top, con, lit, string, lam, app, lets, cases, call, redef, ann, whole, contents, convert, Exprs, Groups, no_group, group, Rows, no_row, row, Bodies, no_body, always, guarded}
 
 reach_app_out : (f e : Exp) (args stack : List Waiting) (out : List ℕ) → (reach_app f e args stack out).out ≡ out
 reach_app_out (var n x) whole_app args stack out = refl

@@ -6,7 +6,7 @@ use Rattle.gh_kernel.specs.declared.terms.Term.{Term}
 use Rattle.gh_kernel.specs.declared.terms.TermNode.{TermNode}
 use Rattle.gh_kernel.specs.declared.terms.LocalBinding.{LocalBinding}
 use Rattle.gh_kernel.specs.declared.terms.Row.{Row, roll-Row, out-Row, fold-roll-Row, roll-out-Row}
-use Rattle.gh_kernel.specs.declared.terms.TermNode.TheOpen.{LocalBinding-F, Row-F, Term-F, TermNode-F}
+use Rattle.gh_kernel.specs.declared.terms.TermNode.TheOpen.{Row-F}
 use Rattle.gh_kernel.specs.declared.terms.TermNode.TheShapes.{former-Row-bodies}
 use Rattle.gh_kernel.specs.Erase.{unit, erased, erased_row, erased_binding, erased_body, erased_pattern, node_step, binding_step, row_step, term_step}
 

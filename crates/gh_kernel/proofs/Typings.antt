@@ -1,5 +1,5 @@
 -- Worked typings.
-use Rattle.std.proofs.Common.{◌≡◌, ℕ, true, false, List, [], ◌∷◌, Some, None, refl, sym, ap, ◌∙◌, arith}
+use Rattle.std.proofs.Common.{◌≡◌, ℕ, true, false, List, [], ◌∷◌, None, refl, sym, ap, ◌∙◌, arith}
 use Rattle.gh_base.specs.declared.place.Span.{Span}
 use Rattle.gh_core.specs.Terms.{char}
 use Rattle.gh_typeterm.specs.declared.kind.Kind.{Kind}
@@ -34,14 +34,15 @@ abbrev identity_twice : Expr Typed
 identity_twice = lets (noted char_type [])
     (group (bind (noted (id_at a) (a ∷ [])) 0 None (lam (noted (id_at a) []) 1 (var (noted a []) 1)) no_bind) no_group)
     (app (noted char_type []) (app (noted (id_at char_type) []) (var (noted (id_at (id_at char_type)) (id_at char_type ∷ [])) 0) (var (noted (id_at char_type) (char_type ∷ [])) 0))
-      (lit (noted char_type []) (char 99)))
+    (lit (noted char_type []) (char 99)))
 
 pub identity_twice_typed : IsTyped loose nothing_given star 100 [] (λ k. None) identity_twice
 identity_twice_typed =
-    let good : Unit {0} × Unit {0} = (tt, tt) in
-    ((((a, (λ h. (good, (refl, refl))), (λ h. (good, refl))), (λ h. (good, refl)), tt), ((refl, λ k d h. refl), tt), tt),
+    let good : Unit {0} × Unit {0} = (tt, tt) in (
+      (((a, (λ h. (good, (refl, refl))), (λ h. (good, refl))), (λ h. (good, refl)), tt), ((refl, λ k d h. refl), tt), tt),
       (((λ h. (good, ((tt, refl), refl))), (λ h. (good, ((tt, refl), refl))), (λ h. (good, refl))), (λ h. (good, refl)), (λ h. (good, refl))),
-      (λ h. (good, refl)))
+      (λ h. (good, refl)),
+    )
 
 -- its nodes: the variable and the function (2), the binding (3), two names and their application (6), the character and the
 -- application to it (8), and the `let` (9)

@@ -1,5 +1,5 @@
 -- The datatypes that no text declares: lists, the empty tuple, and tuples (Haskell 98 Report, 6.1.3 and 6.1.4).
-use Rattle.std.specs.Prelude.{ℕ, zero, suc, ◌+◌, false, List, [], ◌∷◌, replicate}
+use Rattle.std.specs.Prelude.{ℕ, zero, suc, false, List, [], ◌∷◌, replicate}
 use Rattle.gh_base.specs.declared.fixed.TheConstants.{PRELUDE, LIST, NIL, CONS, TUPLE_0, TUPLE_2, TUPLE_3, TUPLE_4, TUPLE_5, TUPLE_6, TUPLE_7}
 use Rattle.gh_base.specs.declared.names.NameId.{NameId}
 use Rattle.gh_base.specs.declared.place.Origin.{Origin}

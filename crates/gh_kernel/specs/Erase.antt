@@ -1,5 +1,5 @@
 -- Terms without their notes.
-use Rattle.std.specs.Prelude.{List, map, Option, option_map}
+use Rattle.std.specs.Prelude.{map, Option, option_map}
 use Rattle.gh_base.specs.declared.place.Origin.{Origin}
 use Rattle.gh_base.specs.declared.place.Span.{Span}
 use Rattle.gh_kernel.specs.declared.patterns.Pattern.{Pattern, fold-Pattern, roll-Pattern}

@@ -1,14 +1,12 @@
 -- Laws of substitution and of runs.
 use Rattle.std.specs.Prelude.{◌≡◌, ℕ, ◌+◌, List, ◌++◌, Option, Some, None}
 use Rattle.gh_core.specs.Reduce.{running}
-use Rattle.gh_core.specs.Run.{Seen}
 use Rattle.gh_base.specs.declared.place.Span.{Span}
 use Rattle.gh_kernel.specs.Closing.{Env, empty, close}
 use Rattle.gh_kernel.specs.Meaning.{meaning}
 use Rattle.gh_kernel.specs.Programs.{Exp, Program}
 use Rattle.gh_kernel.specs.States.{State}
 use Rattle.gh_kernel.specs.Steps.{act}
-use Rattle.gh_kernel.specs.Terms.{Expr}
 
 abbrev pub first_of : {A : Type 0} → Option A → Option A → Option A
 first_of None o = o

@@ -1,11 +1,10 @@
 -- The meaning of a program: what is seen of it after so many steps.
-use Rattle.std.specs.Prelude.{ℕ, List, [], ◌∷◌, ◌++◌, map, length, Option, Some, None}
+use Rattle.std.specs.Prelude.{ℕ, List, [], ◌∷◌, ◌++◌, map, length}
 use Rattle.gh_base.specs.declared.place.Origin.{Origin}
 use Rattle.gh_base.specs.declared.place.Span.{Span}
 use Rattle.gh_typeterm.specs.declared.decl.DeclCon.{DeclCon}
 use Rattle.gh_typeterm.specs.declared.decl.DeclData.{DeclData}
 use Rattle.gh_typeterm.specs.Representation.{rep_of}
-use Rattle.gh_core.specs.Reduce.{Status}
 use Rattle.gh_core.specs.Run.{Seen}
 use Rattle.gh_kernel.specs.declared.functions.Dependency.{Dependency}
 use Rattle.gh_kernel.specs.declared.functions.GenFun.{GenFun}

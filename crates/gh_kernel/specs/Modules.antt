@@ -1,17 +1,13 @@
 -- Typings of whole programs, module by module in link order.
-use Rattle.std.specs.Prelude.{◌≡◌, ◌⊎◌, ℕ, suc, ◌+◌, ◌-◌, ◌<◌, ◌≤◌, Bool, true, false, cond, ◌==◌, List, [], ◌∷◌, ◌++◌, length, map, replicate, Option, Some, None}
+use Rattle.std.specs.Prelude.{◌≡◌, ◌⊎◌, ℕ, suc, ◌+◌, ◌-◌, ◌≤◌, Bool, false, cond, ◌==◌, List, [], ◌∷◌, ◌++◌, length, map, Option, Some, None}
 use Rattle.gh_base.specs.declared.fixed.TheConstants.{CON, CON_DESCR}
-use Rattle.gh_base.specs.declared.names.NameId.{NameId}
 use Rattle.gh_base.specs.declared.place.Origin.{Origin}
 use Rattle.gh_base.specs.declared.place.Span.{Span}
-use Rattle.gh_base.specs.declared.place.TyCon.{TyCon}
-use Rattle.gh_base.specs.declared.place.TyCon.TheVariants as head
-use Rattle.gh_typeterm.specs.declared.decl.DeclData.{DeclData}
 use Rattle.gh_typeterm.specs.declared.kind.Kind.{Kind}
 use Rattle.gh_typeterm.specs.declared.kind.Kind.TheVariants.{Star}
 use Rattle.gh_typeterm.specs.declared.kind.Kind.TheVariants as kind
 use Rattle.gh_unify.specs.Types as ty
-use Rattle.gh_unify.specs.Types.{Mono, inst}
+use Rattle.gh_unify.specs.Types.{Mono}
 use Rattle.gh_kernel.specs.declared.functions.GenFun.{GenFun}
 use Rattle.gh_kernel.specs.declared.kernel.Binding.{Binding}
 use Rattle.gh_kernel.specs.declared.kernel.CaseBody.{CaseBody}
@@ -23,7 +19,7 @@ use Rattle.gh_kernel.specs.declared.signatures.Signed.{Signed}
 use Rattle.gh_kernel.specs.Nodes.{nodes, noted}
 use Rattle.gh_kernel.specs.Reading.{term_of}
 use Rattle.gh_kernel.specs.Terms.{Expr}
-use Rattle.gh_kernel.specs.Types.{arrow, applied_to, of_prelude, Given, Scope, global, Scheme, TypeName, TypeNames, item, primitive_scope, function_among, base_at, places_from}
+use Rattle.gh_kernel.specs.Types.{arrow, applied_to, of_prelude, Given, Scope, global, TypeName, TypeNames, item, primitive_scope, function_among, base_at, places_from}
 use Rattle.gh_kernel.specs.Typing as typing
 use Rattle.gh_kernel.specs.Typing.{Typed, Rules, root, Member, signed_in, unsigned_in, inside, IsTyped, Node, Closes, outside, after, AreDistinct, HaveKinds}
 

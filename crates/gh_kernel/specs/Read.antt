@@ -1,7 +1,6 @@
 -- The terms that values of the program stand for, form by form.
-use Rattle.std.proofs.Common.{◌≡◌, ℕ, List, [], ◌∷◌, Option, Some, None, map, refl, sym, ap, ◌∙◌}
+use Rattle.std.proofs.Common.{◌≡◌, ℕ, List, Option, map, sym, ap, ◌∙◌}
 use Rattle.std.specs.Prelude.{option_map}
-use Rattle.gh_base.specs.declared.names.NameId.{NameId}
 use Rattle.gh_base.specs.declared.place.Origin.{Origin}
 use Rattle.gh_base.specs.declared.place.Span.{Span}
 use Rattle.gh_typeterm.specs.declared.ty.TyNode.{TyNode}
@@ -13,14 +12,13 @@ use Rattle.gh_kernel.specs.declared.patterns.PatternNode.TheOpen.{Pattern-F, Pat
 use Rattle.gh_kernel.specs.declared.patterns.PatternNode.TheVariants as p
 use Rattle.gh_kernel.specs.declared.signatures.Signed.{Signed}
 use Rattle.gh_kernel.specs.declared.terms.LocalBinding.{LocalBinding, roll-LocalBinding, fold-LocalBinding, fold-roll-LocalBinding}
-use Rattle.gh_kernel.specs.declared.terms.Row.{Row, roll-Row, fold-Row, fold-roll-Row}
+use Rattle.gh_kernel.specs.declared.terms.Row.{Row, fold-Row}
 use Rattle.gh_kernel.specs.declared.terms.Term.{Term, roll-Term, fold-roll-Term}
 use Rattle.gh_kernel.specs.declared.terms.TermNode.{TermNode, fold-TermNode, fold-roll-TermNode}
-use Rattle.gh_kernel.specs.declared.terms.TermNode.TheOpen.{LocalBinding-F, Row-F, Term-F, TermNode-F}
-use Rattle.gh_kernel.specs.declared.terms.TermNode.TheShapes.{former-Row-bodies, former-TermNode-Redef-2}
+use Rattle.gh_kernel.specs.declared.terms.TermNode.TheOpen.{LocalBinding-F, Term-F, TermNode-F}
 use Rattle.gh_kernel.specs.declared.terms.TermNode.TheVariants as t
-use Rattle.gh_kernel.specs.Reading.{pats_of, literal_pattern, pattern_node, pattern_read, pattern_of, patterns_of, exprs_of, binds_of, groups_of, rows_of, bodies_of, table_of, variable, literal, term_node, binding_read, row_read, term_read, term_of, type_of}
-use Rattle.gh_kernel.specs.Terms.{Pat, pvar, pwild, pcon, pas, Expr, con, lam, app, lets, cases, call, redef, ann, Binds, bind, Groups, Rows, row}
+use Rattle.gh_kernel.specs.Reading.{pats_of, literal_pattern, pattern_node, pattern_read, pattern_of, exprs_of, groups_of, rows_of, variable, literal, term_node, binding_read, row_read, term_read, term_of, type_of}
+use Rattle.gh_kernel.specs.Terms.{Pat, pvar, pcon, pas, Expr, con, lam, app, lets, cases, call, ann, Binds, bind, Rows}
 
 module _ {A : Type 0} where
   -- patterns

@@ -1,13 +1,13 @@
 -- States of the type-passing meaning, and the place that is demanded.
-use Rattle.std.specs.Prelude.{ℕ, Bool, true, false, List, [], ◌∷◌, Option, Some, None}
+use Rattle.std.specs.Prelude.{ℕ, Bool, true, false, List, [], ◌∷◌}
 use Rattle.gh_base.specs.declared.place.Origin.{Origin}
 use Rattle.gh_base.specs.declared.place.Span.{Span}
 use Rattle.gh_core.specs.Primitives.{Unary, Binary, same_origin, nil, cons}
-use Rattle.gh_core.specs.Reduce.{Status, running, ended, failed, string_con}
+use Rattle.gh_core.specs.Reduce.{Status, running, ended, string_con}
 use Rattle.gh_core.specs.Terms.{Literal, char}
 use Rattle.gh_kernel.specs.Closing.{Env, empty}
 use Rattle.gh_kernel.specs.Programs.{Exp}
-use Rattle.gh_kernel.specs.Terms.{Pat, Pats, no_pat, pat, Expr, var, top, con, lit, string, lam, app, lets, cases, call, redef, ann, whole, contents, convert, Exprs, no_expr, expr, Groups, no_group, group, Rows, no_row, row, Bodies, no_body, always, guarded}
+use Rattle.gh_kernel.specs.Terms.{Pat, Pats, no_pat, pat, var, top, con, lit, string, lam, app, lets, cases, call, redef, ann, whole, contents, convert, Exprs, no_expr, expr, Groups, no_group, group, Rows, no_row, row, Bodies, no_body, always, guarded}
 
 -- what a case goes on with where the row at hand fails: the rows after it, on the arguments as they were
 pub record Rest : Type 0 where

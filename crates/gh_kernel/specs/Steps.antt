@@ -9,16 +9,16 @@ use Rattle.gh_base.specs.declared.place.TyCon.{TyCon}
 use Rattle.gh_base.specs.declared.place.TyCon.TheVariants as head
 use Rattle.gh_core.specs.Terms as core
 use Rattle.gh_core.specs.Terms.{Literal, int, char}
-use Rattle.gh_core.specs.Primitives.{Unary, Binary, Primitive, error, unary, binary, named, primitives, prelude_value, same_origin, nil, cons, error_called, no_match, Outcome, gives, fails, nothing, unary_outcome, binary_outcome}
+use Rattle.gh_core.specs.Primitives.{Primitive, error, unary, binary, named, primitives, prelude_value, same_origin, nil, cons, error_called, no_match, Outcome, gives, fails, nothing, unary_outcome, binary_outcome}
 use Rattle.gh_core.specs.Reduce.{Status, running, ended, failed, same_literal, string_con}
 use Rattle.gh_kernel.specs.declared.names.TopName.{TopName}
 use Rattle.gh_kernel.specs.declared.names.TopName.TheVariants as name
 use Rattle.gh_kernel.specs.Closing.{Env, empty, without, close, close_bodies, close_groups, put, put_groups, groups_bind}
-use Rattle.gh_kernel.specs.Conversions.{applied, converted, made, one_pattern}
+use Rattle.gh_kernel.specs.Conversions.{converted, made, one_pattern}
 use Rattle.gh_kernel.specs.Instances.{nth, type_at, instance}
 use Rattle.gh_kernel.specs.Programs.{Exp, Constructor, Datatype, Function, Program, bound_to, datatype_of, function_of, constructor_of, is_newtype, is_one_of, is_structural, entry_of, case_of, written}
 use Rattle.gh_kernel.specs.States.{Rest, Trial, Focus, eval, matching, falling, Waiting, arg, under, tested, compared, decides, only, first, second, printing, State, at, with_status, head_of, with_args, meet, listed, reach_rows, args_of, after_args, string_args, settled, demand, choose}
-use Rattle.gh_kernel.specs.Terms.{Pat, pvar, pwild, pcon, plit, pstring, pas, Pats, no_pat, pat, Direction, to_data, TypeTerm, tycon, tyvar, tyapp, tyname, tylocal, Expr, var, top, con, lit, string, lam, app, lets, cases, call, redef, ann, whole, contents, convert, Groups, no_group, group, Rows, no_row, row, Bodies}
+use Rattle.gh_kernel.specs.Terms.{Pat, pvar, pwild, pcon, plit, pstring, pas, Pats, no_pat, pat, Direction, to_data, TypeTerm, tycon, tyapp, tylocal, var, top, con, lit, string, lam, app, lets, cases, call, redef, ann, whole, contents, convert, Groups, no_group, group, Rows, no_row, row, Bodies}
 
 -- matching -----------------------------------------------------------------------------------------------------------
 

@@ -1,10 +1,8 @@
 -- Types of values: their kinds, schemes, and what is given of a program before its terms are typed.
-use Rattle.std.specs.Prelude.{◌≡◌, ℕ, zero, suc, ◌-◌, Bool, true, false, cond, ◌==◌, ◌&&◌, ◌||◌, nat_lt, List, [], ◌∷◌, ◌++◌, length, map, Option, Some, None, unwrap_or, IsTrue}
-use Rattle.std.specs.Prelude.{All}
-use Rattle.gh_base.specs.declared.fixed.TheConstants.{BOOL, LIST, CON, CON_DESCR, PLUS, MINUS, TIMES, QUOT, REM, EQUAL, LESS, EQ_CHAR, ORD, CHR, SHOW_INT, ERROR}
+use Rattle.std.specs.Prelude.{◌≡◌, ℕ, zero, suc, Bool, false, cond, ◌==◌, ◌||◌, List, [], ◌∷◌, ◌++◌, map, Option, Some, None}
+use Rattle.gh_base.specs.declared.fixed.TheConstants.{BOOL, LIST, PLUS, MINUS, TIMES, QUOT, REM, EQUAL, LESS, EQ_CHAR, ORD, CHR, SHOW_INT, ERROR}
 use Rattle.gh_base.specs.declared.names.NameId.{NameId}
 use Rattle.gh_base.specs.declared.place.Origin.{Origin}
-use Rattle.gh_base.specs.declared.place.Span.{Span}
 use Rattle.gh_base.specs.declared.place.TyCon.{TyCon}
 use Rattle.gh_base.specs.declared.place.TyCon.TheVariants as head
 use Rattle.gh_typeterm.specs.declared.decl.DeclCon.{DeclCon}
@@ -15,7 +13,7 @@ use Rattle.gh_typeterm.specs.declared.kind.Kind.TheVariants as kind
 use Rattle.gh_core.specs.Primitives.{prelude_value, same_origin}
 use Rattle.gh_core.specs.Terms.{Literal, int, char}
 use Rattle.gh_unify.specs.Types as ty
-use Rattle.gh_unify.specs.Types.{Mono, Val, inst, has, nodes, mono}
+use Rattle.gh_unify.specs.Types.{Mono, Val, inst, has, mono}
 use Rattle.gh_kernel.specs.declared.functions.GenFun.{GenFun}
 use Rattle.gh_kernel.specs.declared.names.TopName.{TopName}
 use Rattle.gh_kernel.specs.declared.names.TopName.TheVariants.{Named}

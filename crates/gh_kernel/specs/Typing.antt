@@ -1,23 +1,17 @@
 -- Typing (Damas and Milner), with generic calls, cases and local redefinitions (Löh). A typing is the program's text with a
 -- type noted at each node; it is typed up to n where each node before the n-th meets its demand.
 use Rattle.std.specs.Prelude.{◌≡◌, ℕ, suc, ◌+◌, ◌-◌, ◌<◌, ◌≤◌, Bool, true, false, cond, ◌==◌, max, List, [], ◌∷◌, ◌++◌, length, map, take, Option, Some, None, All}
-use Rattle.gh_base.specs.declared.fixed.TheConstants.{BOOL, CON, CON_DESCR}
-use Rattle.gh_base.specs.declared.place.Origin.{Origin}
+use Rattle.gh_base.specs.declared.fixed.TheConstants.{BOOL}
 use Rattle.gh_base.specs.declared.place.Span.{Span}
-use Rattle.gh_base.specs.declared.place.TyCon.{TyCon}
-use Rattle.gh_base.specs.declared.place.TyCon.TheVariants as head
 use Rattle.gh_typeterm.specs.declared.kind.Kind.{Kind}
 use Rattle.gh_typeterm.specs.declared.kind.Kind.TheVariants.{Star}
 use Rattle.gh_unify.specs.Types as ty
-use Rattle.gh_unify.specs.Types.{Mono, inst, has, mono}
+use Rattle.gh_unify.specs.Types.{Mono, inst}
 use Rattle.gh_kernel.specs.declared.functions.GenFun.{GenFun}
-use Rattle.gh_kernel.specs.declared.names.Head.{Head}
-use Rattle.gh_kernel.specs.declared.names.Head.TheVariants.{Of, Layer, Bad}
-use Rattle.gh_kernel.specs.declared.names.TopName.{TopName}
 use Rattle.gh_kernel.specs.declared.signatures.Signed.{Signed}
 use Rattle.gh_kernel.specs.Nodes.{pat_nodes, pats_nodes, nodes, all_nodes, binds_nodes, groups_nodes, rows_nodes, bodies_nodes, table_nodes}
 use Rattle.gh_kernel.specs.Terms.{Pat, pvar, pwild, pcon, plit, pstring, pas, Pats, no_pat, pat, TypeTerm, tycon, tyvar, tyapp, tyname, tylocal, Expr, var, top, con, lit, string, lam, app, lets, cases, call, redef, ann, whole, contents, convert, Exprs, no_expr, expr, Binds, no_bind, bind, Groups, no_group, group, Rows, no_row, row, Bodies, no_body, always, guarded, Table, no_entry, entry}
-use Rattle.gh_kernel.specs.Types.{arrow, arrows, applied_to, of_prelude, char_type, list_type, literal_type, item, assigned, HasKind, Scheme, monomorphic, signed_scheme, is_among, Given, Shape, shape, constructor_scheme, function_among, base_at, Bound, local, global, Scope, scheme_of, occurs_in, TypeName, TypeNames, primitive_scope, places_from}
+use Rattle.gh_kernel.specs.Types.{arrow, of_prelude, char_type, list_type, literal_type, item, assigned, HasKind, Scheme, monomorphic, signed_scheme, is_among, Given, Shape, shape, constructor_scheme, function_among, base_at, Bound, local, global, Scope, scheme_of, occurs_in, TypeName, TypeNames, places_from}
 
 -- what is noted of a node: its place, its type, the types at which a name is used there (or the variables that a binding
 -- quantifies, or the types that a type name stands for), and the kinds of the variables of all these

@@ -1,6 +1,8 @@
 // Terms without their notes.
 ghost use Rattle.std.specs.Prelude.{◌≡◌, IfOk, map};
 ghost use Rattle.gh_kernel.specs.Erase.{erased, erased_binding, erased_body, erased_node, erased_pair, erased_pattern, erased_pattern_node, erased_row};
+ghost use Rattle.gh_kernel.specs.Nodes.{noted};
+ghost use Rattle.gh_kernel.specs.Reading.{term_of};
 
 use crate::copies::{copy_lit, copy_signature, copy_signed};
 use crate::patterns::{Pattern, PatternNode};
@@ -10,8 +12,17 @@ use sqlite_items::Boxed;
 use std::alloc::Global;
 
 /// The same term without its notes: all else stays, at every depth.
-#[cycle(erase)]
 pub fn erase<A>(alloc: Global, term: &Term<A>) -> Result<Term<()>, NoMemory>
+    ensures value { IfOk result (λ made. made ≡ erased term.now) }
+    // What the answer stands for is the text of the term, with nothing for each note.
+    ensures text { IfOk result (λ made. term_of made ≡ noted (λ _. tt) (term_of term.now)) }
+{
+    let made = erase_term(alloc, term)?;
+    Ok(made)
+}
+
+#[cycle(erase)]
+fn erase_term<A>(alloc: Global, term: &Term<A>) -> Result<Term<()>, NoMemory>
     ensures { IfOk result (λ made. made ≡ erased term.now) }
 {
     let node = erase_node(alloc, &term.node)?;
@@ -27,17 +38,17 @@ fn erase_node<A>(alloc: Global, node: &TermNode<A>) -> Result<TermNode<()>, NoMe
         TermNode::Con(con) => Ok(TermNode::Con(*con)),
         TermNode::Lit(lit) => Ok(TermNode::Lit(copy_lit(alloc, lit)?)),
         TermNode::Lam(name, body) => {
-            let body = Boxed::new(alloc, erase(alloc, body.get())?)?;
+            let body = Boxed::new(alloc, erase_term(alloc, body.get())?)?;
             Ok(TermNode::Lam(*name, body))
         }
         TermNode::App(function, argument) => {
-            let function = Boxed::new(alloc, erase(alloc, function.get())?)?;
-            let argument = Boxed::new(alloc, erase(alloc, argument.get())?)?;
+            let function = Boxed::new(alloc, erase_term(alloc, function.get())?)?;
+            let argument = Boxed::new(alloc, erase_term(alloc, argument.get())?)?;
             Ok(TermNode::App(function, argument))
         }
         TermNode::Let(groups, body) => {
             let groups = erase_groups(alloc, groups.as_slice())?;
-            let body = Boxed::new(alloc, erase(alloc, body.get())?)?;
+            let body = Boxed::new(alloc, erase_term(alloc, body.get())?)?;
             Ok(TermNode::Let(groups, body))
         }
         TermNode::Case(terms, rows) => {
@@ -48,11 +59,11 @@ fn erase_node<A>(alloc: Global, node: &TermNode<A>) -> Result<TermNode<()>, NoMe
         TermNode::Call(function, at) => Ok(TermNode::Call(*function, at.share()?)),
         TermNode::Redef(number, name, pairs, body) => {
             let pairs = erase_pairs(alloc, pairs.as_slice())?;
-            let body = Boxed::new(alloc, erase(alloc, body.get())?)?;
+            let body = Boxed::new(alloc, erase_term(alloc, body.get())?)?;
             Ok(TermNode::Redef(*number, *name, pairs, body))
         }
         TermNode::Ann(term, signed) => {
-            let term = Boxed::new(alloc, erase(alloc, term.get())?)?;
+            let term = Boxed::new(alloc, erase_term(alloc, term.get())?)?;
             Ok(TermNode::Ann(term, copy_signed(alloc, signed)?))
         }
     }
@@ -65,7 +76,7 @@ fn erase_terms<A>(alloc: Global, terms: &[Term<A>]) -> Result<ListOf<Term<()>>, 
 {
     let mut made = ListOf::new(alloc);
     for term in terms {
-        made.push(erase(alloc, term)?)?;
+        made.push(erase_term(alloc, term)?)?;
     }
     Ok(made)
 }
@@ -94,7 +105,7 @@ fn erase_binding<A>(alloc: Global, binding: &LocalBinding<A>) -> Result<LocalBin
     ensures { IfOk result (λ made. made ≡ erased_binding binding.now) }
 {
     let signature = copy_signature(alloc, &binding.signature)?;
-    let term = erase(alloc, &binding.term)?;
+    let term = erase_term(alloc, &binding.term)?;
     Ok(LocalBinding {
         name: binding.name,
         signature,
@@ -141,10 +152,10 @@ fn erase_bodies<A>(
     let mut made = ListOf::new(alloc);
     for (guard, body) in bodies {
         let guard = match guard {
-            Some(guard) => Some(erase(alloc, guard)?),
+            Some(guard) => Some(erase_term(alloc, guard)?),
             None => None,
         };
-        made.push((guard, erase(alloc, body)?))?;
+        made.push((guard, erase_term(alloc, body)?))?;
     }
     Ok(made)
 }
@@ -159,7 +170,7 @@ fn erase_pairs<A>(
 {
     let mut made = ListOf::new(alloc);
     for (function, span, term) in pairs {
-        made.push((*function, *span, erase(alloc, term)?))?;
+        made.push((*function, *span, erase_term(alloc, term)?))?;
     }
     Ok(made)
 }

@@ -26,7 +26,7 @@ fn place() -> Span {
 fn variable(name: u32) -> Term<u32> {
     Term {
         node: TermNode::Var(VarName::Local(name)),
-        note: 100 + name,
+        note: name,
     }
 }
 

@@ -1,6 +1,6 @@
 -- One name more, or the names of a letrec.
-use Rattle.std.proofs.Common.{◌≡◌, ℕ, zero, suc, ◌+◌, ◌≤◌, ◌<◌, List, [], ◌∷◌, ◌++◌, length, drop, get_or, Bool, cond, Option, Some, None, refl, sym, ap, ◌∙◌, subst, ◌⊎◌, inl, inr, arith, length-append, drop-cons, add-one}
-use Rattle.std.specs.Prelude.{slice_get, ◌==◌}
+use Rattle.std.proofs.Common.{◌≡◌, ℕ, zero, suc, ◌+◌, ◌≤◌, ◌<◌, List, [], ◌∷◌, ◌++◌, length, drop, get_or, cond, Some, refl, sym, ap, ◌∙◌, subst, ◌⊎◌, inl, inr, arith, length-append, drop-cons, add-one}
+use Rattle.std.specs.Prelude.{slice_get}
 use Rattle.gh_core.specs.Terms.{Term}
 use Rattle.gh_core.specs.Closing.{Env, close, put, put_all}
 use Rattle.gh_core.specs.Reduce.{Waiting, arg, args_of}
@@ -9,7 +9,7 @@ use Rattle.gh_machine.specs.Sound.{IsBound}
 use Rattle.gh_machine.specs.declared.closure.TheConstants.{GROUP}
 use Rattle.gh_machine.specs.declared.closure.Closure.{Closure}
 use Rattle.gh_machine.specs.declared.closure.Cell.{Cell}
-use Rattle.gh_machine.proofs.Envs.{envs_of-push, env_in-push, env_in_last}
+use Rattle.gh_machine.proofs.Envs.{env_in-push, env_in_last}
 use Rattle.gh_machine.proofs.Looks.{parent_is, same_test, other_test}
 use Rattle.gh_machine.proofs.Stacks.{args_from}
 

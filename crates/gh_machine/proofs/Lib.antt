@@ -1,6 +1,7 @@
 pub mod Bound
 pub mod Entered
 pub mod Envs
+pub mod Keys
 pub mod Looks
 pub mod Moves
 pub mod Picks

@@ -1,9 +1,9 @@
 -- Looking for a name goes from cell to cell.
-use Rattle.std.proofs.Common.{◌≡◌, ℕ, zero, suc, ◌+◌, ◌-◌, ◌≤◌, ◌<◌, List, [], ◌∷◌, length, Bool, true, false, cond, eqb, eq-eqb, get_or, Option, Some, None, refl, sym, ap, ◌∙◌, arith, inl, inr, ◌==◌}
+use Rattle.std.proofs.Common.{◌≡◌, ℕ, zero, suc, ◌+◌, ◌-◌, ◌≤◌, ◌<◌, List, [], ◌∷◌, length, Bool, true, false, cond, eq-eqb, get_or, Option, Some, None, refl, sym, ap, ◌∙◌, arith, inl, inr, ◌==◌}
 use Rattle.std.specs.Prelude.{slice_get, option_map}
 use Rattle.std.proofs.lemmas.Option.{slice_get_read}
 use Rattle.std.proofs.lemmas.Bool.Decides.{eqb_tells}
-use Rattle.gh_core.specs.Terms.{Term, letrec, Binds, bind, no_bind}
+use Rattle.gh_core.specs.Terms.{Term, letrec, Binds, bind}
 use Rattle.gh_core.specs.Closing.{Env, without, binds_name, close, close_binds, put, put_rec}
 use Rattle.gh_core.specs.Reading.{binds_of}
 use Rattle.gh_machine.specs.Unload.{IsFine, env_in, env_of, code_in, parent_of, closed_in, after_cell, envs_of, group, binds_in, bound_at, binding_in, place_of}

@@ -1,5 +1,5 @@
 -- What the machine's moves lead to.
-use Rattle.std.proofs.Common.{◌≡◌, ℕ, zero, suc, ◌+◌, ◌-◌, ◌≤◌, ◌<◌, List, [], ◌∷◌, length, drop, get_or, Bool, Option, Some, true, false, refl, sym, ap, ◌∙◌, subst, arith, ◌==◌, length-drop, inl, inr, vec_len, vec_capacity}
+use Rattle.std.proofs.Common.{◌≡◌, ℕ, zero, suc, ◌+◌, ◌≤◌, ◌<◌, List, [], ◌∷◌, length, drop, get_or, Bool, Option, Some, true, false, refl, sym, ap, ◌∙◌, subst, arith, ◌==◌, length-drop, inl, inr, vec_len, vec_capacity}
 use Rattle.std.specs.Prelude.{◌&&◌}
 use Rattle.std.proofs.lemmas.Bool.Decides.{eqb_tells}
 use Rattle.gh_base.specs.declared.place.Origin.{Origin}
@@ -155,7 +155,7 @@ held_bound old mid top ρ h b s d =
     }
 
 pub led_bound : (old mid new : Parts) (n top : ℕ) (t : Term) (ρ : Env) (s : State) → IsHeld old → IsBound old.cells.items mid.cells.items top ρ
-    → mid.stack ≡ old.stack → mid.pending ≡ old.pending → mid.program.now ≡ old.program.now → vec_capacity old.cells ≤ vec_capacity mid.cells
+    → mid.stack ≡ old.stack → mid.pending ≡ old.pending → mid.program ≡ old.program → vec_capacity old.cells ≤ vec_capacity mid.cells
     → Leads mid new (demand (close t (env_in (envs_of mid.cells.items) top)) (drop n (stack_in (envs_of mid.cells.items) [] mid.stack.items)) mid.pending.items)
     → vec_len new.cells + vec_len new.stack ≤ vec_len old.cells + vec_len old.stack + 2
     → demand (close t ρ) (drop n (stack_in (envs_of old.cells.items) [] old.stack.items)) old.pending.items ≡ s

@@ -1,11 +1,11 @@
 -- The parts of a case and of a letrec.
-use Rattle.std.proofs.Common.{◌≡◌, ℕ, zero, suc, ◌+◌, ◌<◌, ◌≤◌, List, [], ◌∷◌, length, drop, map, get_or, Bool, true, false, cond, Option, Some, None, refl, sym, ap, ◌∙◌, subst, arith, add-one, drop-cons}
+use Rattle.std.proofs.Common.{◌≡◌, ℕ, zero, suc, ◌+◌, ◌<◌, ◌≤◌, List, [], ◌∷◌, length, drop, map, get_or, true, false, cond, Option, Some, None, refl, sym, ap, ◌∙◌, arith, add-one, drop-cons}
 use Rattle.std.specs.Prelude.{slice_get, option_map, ◌&&◌, ◌==◌}
 use Rattle.gh_base.specs.declared.place.Origin.{Origin}
 use Rattle.gh_core.specs.declared.erased.ErasedTerm.{ErasedTerm}
 use Rattle.gh_core.specs.declared.erased.ErasedTerm.TheVariants as t
 use Rattle.gh_core.specs.declared.erased.ErasedAlt.{ErasedAlt}
-use Rattle.gh_core.specs.Terms.{Term, letrec, contents, Alt, con_alt, lit_alt, Literal, Alts, no_alt, else_to, alt}
+use Rattle.gh_core.specs.Terms.{Term, contents, Alt, con_alt, lit_alt, Literal, Alts, alt}
 use Rattle.gh_core.specs.Closing.{Env, empty, without, is_in, close, close_alts, put, put_all}
 use Rattle.gh_core.specs.Primitives.{nil, same_origin}
 use Rattle.gh_core.specs.Reading.{term_of, alt_of, alts_of, binds_of}

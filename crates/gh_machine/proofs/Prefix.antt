@@ -7,7 +7,7 @@ use Rattle.gh_base.specs.declared.place.Span.{Span}
 use Rattle.gh_core.specs.Terms.{Literal, int, char, Term, var, glob, con, lit, string, prim, lam, app, letrec, cases, stop, whole, contents, con_alt, lit_alt, Alts, no_alt, else_to, alt}
 use Rattle.gh_core.specs.Closing.{empty, close, put, put_all, put_rec}
 use Rattle.gh_core.specs.Primitives.{Primitive, error, unary, binary, named, primitives, Outcome, gives, fails, nothing, unary_outcome, binary_outcome, nil, cons, same_origin}
-use Rattle.gh_core.specs.Reduce.{Waiting, arg, of_case, under, only, first, second, printing, Status, running, ended, failed, State, Program, with_status, opened, args_of, after_args, string_con, string_args, at, list_cell, listed, settled_at, demand, defined, unfold_global, enter, choose, choose_literal, same_literal, uncover, give, conclude, print, supply, operate, is_newtype, begin_case, reduce_at, reduce_in, reduce, reductions}
+use Rattle.gh_core.specs.Reduce.{Waiting, arg, of_case, under, only, first, second, printing, Status, running, ended, failed, State, Program, opened, args_of, after_args, string_con, string_args, at, list_cell, listed, settled_at, demand, defined, unfold_global, enter, choose, choose_literal, same_literal, uncover, give, conclude, print, supply, operate, is_newtype, begin_case, reduce_at, reduce_in, reduce, reductions}
 use Rattle.gh_machine.specs.Prefix.{with_out, printed_before}
 
 abbrev P : List ℕ → State → State

@@ -1,5 +1,5 @@
 -- One reduction after another.
-use Rattle.std.proofs.Common.{◌≡◌, ℕ, zero, suc, ◌+◌, ◌-◌, ◌*◌, ◌≤◌, refl, sym, ap, ◌∙◌, arith, add-one, vec_len, vec_capacity}
+use Rattle.std.proofs.Common.{◌≡◌, ℕ, zero, suc, ◌+◌, ◌-◌, ◌≤◌, refl, sym, ap, ◌∙◌, arith, add-one}
 use Rattle.gh_core.specs.Reduce.{State, Program, Status, running, ended, failed, reduce, reduce_in, reductions}
 use Rattle.gh_core.specs.Primitives.{Cause}
 use Rattle.gh_base.specs.declared.place.Span.{Span}
@@ -11,7 +11,7 @@ use Rattle.gh_machine.specs.declared.parts.Parts.{Parts}
 pub record IsRun (n : ℕ) (start now : Parts) : Type 0 where
   pub held : IsHeld now
   pub state : state_of now ≡ reductions (program_in start) n (state_of start)
-  pub program : now.program.now ≡ start.program.now
+  pub program : now.program ≡ start.program
   pub room : (m : ℕ) → HasRoom (n + m) start → HasRoom m now
 
 pub less_room : (n m : ℕ) (p : Parts) → m ≤ n → HasRoom n p → HasRoom m p

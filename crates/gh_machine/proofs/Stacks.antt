@@ -4,12 +4,10 @@ use Rattle.std.specs.Prelude.{pos}
 use Rattle.std.proofs.lemmas.List.{take_more}
 use Rattle.gh_core.specs.Closing.{Env, close, close_alts}
 use Rattle.gh_core.specs.Reading.{term_of}
-use Rattle.gh_core.specs.Terms.{Term}
 use Rattle.gh_core.specs.Reduce.{Waiting, arg, of_case, under, only, first, second, printing, args_of, after_args}
 use Rattle.gh_machine.specs.Unload.{env_in, env_of, code_in, closed_in, alts_in}
 use Rattle.gh_machine.specs.Values.{binary_of}
 use Rattle.gh_machine.specs.Stacks.{stack_in, waiting_in, env_of_frame, AreWithin}
-use Rattle.gh_machine.specs.declared.closure.Closure.{Closure}
 use Rattle.gh_machine.specs.declared.closure.Closure.TheVariants.{Digits}
 use Rattle.gh_machine.specs.declared.closure.Frame.{Frame}
 use Rattle.gh_machine.specs.declared.closure.Frame.TheVariants.{Arg, OfCase, Under, Only, First, Second, Printing}

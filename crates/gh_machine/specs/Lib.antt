@@ -1,4 +1,5 @@
 pub mod Codes
+pub mod Keys
 pub mod Picks
 pub mod Prefix
 pub mod Sound

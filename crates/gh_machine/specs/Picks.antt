@@ -1,8 +1,8 @@
 -- The alternative with which a case goes on.
 use Rattle.std.specs.Prelude.{◌≡◌, ℕ, List, [], ◌∷◌, length, Option, Some, None, Bool, false, ◌&&◌, ◌==◌}
 use Rattle.gh_base.specs.declared.place.Origin.{Origin}
-use Rattle.gh_core.specs.Terms.{Term, contents, Literal, Alt, con_alt, lit_alt}
-use Rattle.gh_core.specs.Closing.{Env, empty, without, is_in, close, close_alts, put, put_all}
+use Rattle.gh_core.specs.Terms.{Term, Literal, Alt, con_alt, lit_alt}
+use Rattle.gh_core.specs.Closing.{Env, empty, without, is_in, close, close_alts, put_all}
 use Rattle.gh_core.specs.Primitives.{same_origin}
 use Rattle.gh_core.specs.Reading.{term_of}
 use Rattle.gh_core.specs.Reduce.{Waiting, State, same_literal, of_case, demand, begin_case}

@@ -13,7 +13,7 @@ abbrev pub state_of : Parts → State
 state_of p = record { focus = opened (demanded_in (envs_of p.cells.items) p.demand); stack = stack_in (envs_of p.cells.items) [] p.stack.items; out = p.pending.items; status = status_of p.turn }
 
 abbrev pub program_in : Parts → Program
-program_in p = program_of p.program.now
+program_in p = program_of p.program
 
 -- what the machine's own places keep
 pub record IsHeld (p : Parts) : Type 0 where
@@ -32,7 +32,7 @@ pub record HasRoom (n : ℕ) (p : Parts) : Type 0 where
 pub record Goes (old new : Parts) (s : State) : Type 0 where
   pub held : IsHeld new
   pub state : state_of new ≡ s
-  pub program : new.program.now ≡ old.program.now
+  pub program : new.program ≡ old.program
   pub cells : vec_len new.cells ≡ vec_len old.cells
   pub stack : vec_len new.stack ≤ vec_len old.stack + (1 - vec_len old.stack)
   pub pending : vec_len new.pending ≡ vec_len old.pending
@@ -44,7 +44,7 @@ pub record Goes (old new : Parts) (s : State) : Type 0 where
 pub record Leads (old new : Parts) (s : State) : Type 0 where
   pub held : IsHeld new
   pub state : state_of new ≡ s
-  pub program : new.program.now ≡ old.program.now
+  pub program : new.program ≡ old.program
   pub total : vec_len new.cells + vec_len new.stack ≤ vec_len old.cells + vec_len old.stack + 2
   pub stack : vec_len new.stack ≤ vec_len old.stack + 1
   pub pending : vec_len new.pending ≤ vec_len old.pending + 4

@@ -1,6 +1,5 @@
 -- What the frames of a machine's stack stand for.
-use Rattle.std.specs.Prelude.{◌≡◌, ◌≤◌, ℕ, List, [], ◌∷◌}
-use Rattle.gh_core.specs.Terms.{Term}
+use Rattle.std.specs.Prelude.{◌≤◌, ℕ, List, [], ◌∷◌}
 use Rattle.gh_core.specs.Closing.{Env, close_alts}
 use Rattle.gh_core.specs.Reading.{term_of}
 use Rattle.gh_core.specs.Reduce.{Waiting, arg, of_case, under, only, first, second, printing}

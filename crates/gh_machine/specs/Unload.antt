@@ -1,9 +1,8 @@
 -- The terms and environments that a machine's parts stand for.
-use Rattle.std.specs.Prelude.{◌≡◌, ◌≤◌, slice_get, ℕ, zero, suc, ◌+◌, List, [], ◌∷◌, ◌++◌, map, drop, Option, Some, None, slice_index_or, cond, ◌==◌, option_map}
+use Rattle.std.specs.Prelude.{◌≡◌, ◌≤◌, slice_get, ℕ, zero, suc, ◌+◌, List, [], ◌∷◌, ◌++◌, drop, Option, Some, None, slice_index_or, cond, ◌==◌, option_map}
 use Rattle.std.specs.Fmt.{signed_decimal}
-use Rattle.gh_core.specs.declared.erased.ErasedTerm.{ErasedTerm}
-use Rattle.gh_core.specs.Terms.{Term, var, glob, con, lit, int, char, string, prim, lam, app, letrec, cases, stop, whole, contents, Binds, no_bind, bind, Alts, no_alt, else_to, alt, con_alt, lit_alt}
-use Rattle.gh_core.specs.Closing.{Env, empty, without, binds_name, close, close_binds, close_alts, put, put_rec}
+use Rattle.gh_core.specs.Terms.{Term, var, con, lit, char, string, letrec, cases, contents, Binds, no_bind, bind, Alts, no_alt, else_to, alt, con_alt, lit_alt}
+use Rattle.gh_core.specs.Closing.{Env, empty, without, binds_name, close, close_binds, put, put_rec}
 use Rattle.gh_core.specs.Reading.{term_of}
 use Rattle.gh_core.specs.Primitives.{nil}
 use Rattle.gh_base.specs.declared.place.Origin.{Origin}

@@ -1,5 +1,4 @@
 -- What the machine's values of primitives stand for.
-use Rattle.std.specs.Prelude.{ℕ, ℤ}
 use Rattle.std.specs.Fmt.{signed_decimal}
 use Rattle.gh_base.specs.declared.names.NameId.{NameId}
 use Rattle.gh_core.specs.Terms as s

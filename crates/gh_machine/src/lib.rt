@@ -8,8 +8,10 @@ mod machine;
 mod parts;
 mod pick;
 mod primitive;
+mod program;
 mod stack;
 mod step;
+mod table;
 #[cfg(test)]
 mod tests;
 mod text;

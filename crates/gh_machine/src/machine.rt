@@ -30,7 +30,7 @@ impl<'a> Model for Machine<'a> {
 
     ghost use Rattle.gh_machine.specs.Sound.{state_of, IsHeld, HasRoom};
 
-    ghost view = { λ m. record { program = m.parts.program.now; state = state_of m.parts; spare = m.spare } };
+    ghost view = { λ m. record { program = m.parts.program; state = state_of m.parts; spare = m.spare } };
 
     ghost invariant = { λ m. IsHeld m.parts × HasRoom m.spare m.parts };
 }

@@ -15,6 +15,7 @@ use crate::bind::bind_group;
 use crate::closure::{Cell, Closure, Demand, Frame};
 use crate::look::resolve;
 use crate::primitive::prelude_value;
+use crate::program::Program;
 use crate::stack::{arg_at, count_args, drop_top, push_frame};
 use crate::text::{Head, Pair, Text, list_head, split};
 use crate::turn::{Stop, StopCause, Turn};
@@ -26,7 +27,7 @@ use std::alloc::Global;
 /// What a machine keeps.
 #[derive(Drop)]
 pub struct Parts<'a> {
-    pub program: &'a Erased,
+    pub program: Program<'a>,
     pub cells: Vec<Cell<'a>>,
     pub stack: Vec<Frame<'a>>,
     pub demand: Demand<'a>,
@@ -39,11 +40,11 @@ impl<'a> Parts<'a> {
     pub fn new(alloc: Global, program: &'a Erased) -> Result<Parts<'a>, NoMemory>
         ensures held { IfOk result (λ p. IsHeld p) }
         ensures state { IfOk result (λ p. state_of p ≡ start (term_of program.now.main)) }
-        ensures program { IfOk result (λ p. p.program.now ≡ program.now) }
+        ensures program { IfOk result (λ p. p.program ≡ program.now) }
         ensures room { IfOk result (λ p. HasRoom 0 p) }
     {
         let mut parts = Parts {
-            program,
+            program: Program::new(alloc, program)?,
             cells: Vec::with_capacity(alloc, 1)?,
             stack: Vec::with_capacity(alloc, 1)?,
             demand: Demand::At(Closure::Term(0, &program.main)),
@@ -199,7 +200,7 @@ impl<'a> Parts<'a> {
         requires small { k ≤ 1000 }
         ensures held { IsHeld self.new }
         ensures state { state_of self.new ≡ state_of self.old }
-        ensures program { self.new.program.now ≡ self.old.program.now }
+        ensures program { self.new.program ≡ self.old.program }
         ensures room { OnOk result (HasRoom k self.new) }
         ensures kept { (n : ℕ) → HasRoom n self.old → HasRoom n self.new }
     {

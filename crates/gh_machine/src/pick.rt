@@ -1,11 +1,11 @@
-// What a case, a letrec and a program have.
+// What a case and a letrec have.
 ghost use Rattle.std.specs.Prelude.{◌≡◌, ℕ, List, length, option_map, map, MatchOption};
 ghost use Rattle.std.specs.Option.{option_copied};
 ghost use Rattle.gh_base.specs.declared.place.Origin.{Origin};
 ghost use Rattle.gh_core.specs.Terms.{Term, Alts};
 ghost use Rattle.gh_core.specs.Closing.{Env, close_alts};
 ghost use Rattle.gh_core.specs.Reduce as r;
-ghost use Rattle.gh_core.specs.Reading.{term_of, alt_of, defs_of};
+ghost use Rattle.gh_core.specs.Reading.{term_of, alt_of};
 ghost use Rattle.gh_machine.specs.Unload.{alts_in, binds_in, body_in, bound_at, scrutinee_in, first_con};
 ghost use Rattle.gh_machine.specs.Values.{literal_of};
 ghost use Rattle.gh_machine.specs.Picks.{goes_on, plain_on, HasNames, fits_con, fits_literal, alt_names, alt_body, IsDemanding, IsOnNewtype};
@@ -13,7 +13,7 @@ ghost use Rattle.gh_machine.specs.Picks.{goes_on, plain_on, HasNames, fits_con, 
 use crate::primitive::{Literal, prelude_value};
 use gh_base::Origin;
 use gh_base::fixed::NIL;
-use gh_core::{CoreName, ErasedAlt, ErasedTerm};
+use gh_core::{ErasedAlt, ErasedTerm};
 use sqlite_items::at;
 
 /// With what a case goes on.
@@ -195,16 +195,4 @@ pub fn binding_of(term: &ErasedTerm, index: usize) -> &ErasedTerm
         },
         _ => term,
     }
-}
-
-/// The first definition of this name.
-pub fn definition(defs: &[(CoreName, ErasedTerm)], name: CoreName) -> Option<&ErasedTerm>
-    ensures { option_map term_of (option_copied result) ≡ r.defined (defs_of defs.now) name }
-{
-    for (other, term) in defs {
-        if *other == name {
-            return Some(term);
-        }
-    }
-    None
 }

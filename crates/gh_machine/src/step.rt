@@ -16,7 +16,7 @@ use crate::closure::{Closure, Demand, Frame};
 use crate::look::resolve;
 use crate::parts::Parts;
 use crate::pick::{
-    Picked, binding_of, definition, newtype_of, on_newtype, pick_con, pick_literal, scrutinee_of,
+    Picked, binding_of, newtype_of, on_newtype, pick_con, pick_literal, scrutinee_of,
 };
 use crate::primitive::{
     Literal, Outcome, Primitive, binary_outcome, prelude_value, primitive_named, unary_outcome,
@@ -48,7 +48,7 @@ impl<'a> Parts<'a> {
         requires room { HasRoom 1 self.old }
         ensures { Leads self.old self.new (r.unfold_global (r.defined (program_in self.old).defs name) (state_of self.old).stack (state_of self.old).out (state_of self.old)) }
     {
-        if let Some(term) = definition(self.program.defs.as_slice(), name) {
+        if let Some(term) = self.program.definition(name) {
             self.go_without(0, Demand::At(Closure::Term(0, term)));
         }
     }
@@ -58,9 +58,9 @@ impl<'a> Parts<'a> {
         requires held { IsHeld self.old }
         requires within { env ≤ length self.old.cells.items }
         requires room { HasRoom 1 self.old }
-        ensures { Leads self.old self.new (r.begin_case self.old.program.now.newtypes (close (scrutinee_in (term_of case.now)) (env_in (envs_of self.old.cells.items) env)) (close_alts (alts_in (term_of case.now)) (env_in (envs_of self.old.cells.items) env)) (state_of self.old).stack (state_of self.old).out) }
+        ensures { Leads self.old self.new (r.begin_case self.old.program.newtypes (close (scrutinee_in (term_of case.now)) (env_in (envs_of self.old.cells.items) env)) (close_alts (alts_in (term_of case.now)) (env_in (envs_of self.old.cells.items) env)) (state_of self.old).stack (state_of self.old).out) }
     {
-        match on_newtype(self.program.newtypes.as_slice(), case) {
+        match on_newtype(self.program.newtypes(), case) {
             Some(one) => {
                 let top = bind(&mut self.cells, one.name, env, Closure::Contents(env, case));
                 self.go_without(0, Demand::At(Closure::Term(top, one.body)));
@@ -383,7 +383,7 @@ impl<'a> Parts<'a> {
         ensures held { IsHeld self.new }
         ensures state { state_of self.new ≡ r.reductions (program_in self.old) k (state_of self.old) }
         ensures turn { result ≡ self.new.turn }
-        ensures program { self.new.program.now ≡ self.old.program.now }
+        ensures program { self.new.program ≡ self.old.program }
         ensures room { (n : ℕ) → HasRoom (k + n) self.old → HasRoom n self.new }
     {
         for _ in 0..k {

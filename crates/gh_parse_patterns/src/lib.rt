@@ -3,5 +3,7 @@
 
 mod arguments;
 mod patterns;
+#[cfg(test)]
+mod tests;
 
 pub use patterns::{arg, parse_pattern, pattern};

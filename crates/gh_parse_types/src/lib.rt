@@ -2,5 +2,7 @@
 #![tactic(auto)]
 
 mod types;
+#[cfg(test)]
+mod tests;
 
 pub use types::{parse_type, type_expr};

@@ -91,7 +91,7 @@ listed_complete s a c cs b rest good =
     (append_assoc (printed.con c) (others ++ at k.Close b ∷ []) rest ∙ ap (λ us. printed.con c ++ us) (append_assoc others (at k.Close b ∷ []) rest))
     ∙ chain _ read refl
 
-parts_complete : (p : Option Parts) (rest : List Sym) → (printed.parts p).good ≡ true → ends_export rest ≡ true → any_parts ((printed.parts p).flat ++ rest) ≡ taken p rest
+pub parts_complete : (p : Option Parts) (rest : List Sym) → (printed.parts p).good ≡ true → ends_export rest ≡ true → any_parts ((printed.parts p).flat ++ rest) ≡ taken p rest
 unfolding any_parts some_parts parts_opened all_parts listed_parts
 parts_complete None rest good ends = parts_none rest ends
 parts_complete (Some (v_Parts.All s a m b)) rest good ends = ap (λ z. taken (Some (v_Parts.All z a m b)) rest) (spanned_span s rest (at k.Open a ∷ at k.DotDot m ∷ at k.Close b ∷ []) true good)
@@ -146,7 +146,7 @@ comma_ends_by : (first second : Option Kind) → goes_on_by first second ≡ tru
 comma_ends_by (Some k.Comma) second e = refl
 comma_ends_by _ second e = absurd (cc)
 
-comma_ends : (ss : List Sym) → goes_on ss ≡ true → ends_export ss ≡ true
+pub comma_ends : (ss : List Sym) → goes_on ss ≡ true → ends_export ss ≡ true
 comma_ends ss e = ap not (comma_ends_by (kind ss) (kind (after ss)) e)
 
 next_exports_complete : (xs : List NextExport) (rest : List Sym) → good_all (map printed.next_export xs) ≡ true → ends_export rest ≡ true → goes_on rest ≡ false
@@ -188,7 +188,7 @@ unfolding export_list
 none_complete None b rest = refl
 none_complete (Some m) b rest = refl
 
-end_stops : (c : Option Span) (b : Span) (rest : List Sym) → (ends_export (optional c k.Comma ++ (at k.Close b ∷ rest)) ≡ true) × (goes_on (optional c k.Comma ++ (at k.Close b ∷ rest)) ≡ false)
+pub end_stops : (c : Option Span) (b : Span) (rest : List Sym) → (ends_export (optional c k.Comma ++ (at k.Close b ∷ rest)) ≡ true) × (goes_on (optional c k.Comma ++ (at k.Close b ∷ rest)) ≡ false)
 end_stops None b rest = (refl, refl)
 end_stops (Some m) b rest = (refl, refl)
 
@@ -197,7 +197,7 @@ any_list_complete : (l : Option ExportList) (c : Option Span) (b : Span) (rest :
 any_list_complete None c b rest good = none_complete c b rest
 any_list_complete (Some l) c b rest good = let h = end_stops c b rest in list_complete l (optional c k.Comma ++ (at k.Close b ∷ rest)) good h.0 h.1
 
-last_comma_complete : (c : Option Span) (b : Span) (rest : List Sym) → last_comma (optional c k.Comma ++ (at k.Close b ∷ rest)) ≡ taken c (at k.Close b ∷ rest)
+pub last_comma_complete : (c : Option Span) (b : Span) (rest : List Sym) → last_comma (optional c k.Comma ++ (at k.Close b ∷ rest)) ≡ taken c (at k.Close b ∷ rest)
 unfolding last_comma
 last_comma_complete None b rest = refl
 last_comma_complete (Some m) b rest = refl

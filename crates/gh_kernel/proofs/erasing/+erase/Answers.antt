@@ -1,9 +1,9 @@
-use Rattle.std.proofs.Common.{rules, arith, ◌≡◌, map, take, ap, sym, ◌∙◌, ◌<◌, ◌≤◌, ◌+◌, ◌++◌, [], ◌∷◌, Option, Some, None}
+use Rattle.std.proofs.Common.{rules, arith, ◌≡◌, map, take, ap, sym, ◌∙◌, ◌+◌, ◌++◌, [], ◌∷◌, Option, Some}
 use Rattle.std.specs.Prelude.{option_map}
 use Rattle.gh_kernel.specs.declared.terms.Term.{Term}
-use Rattle.gh_kernel.proofs.erasing.+erase.Goals.{erase_bodies-in-Some+in_ok-erase-in-Some, erase_bodies-in-None}
+use Rattle.gh_kernel.proofs.erasing.+erase.Goals.{erase_bodies-in-Some+in_ok-erase_term-in-Some, erase_bodies-in-None}
 use Rattle.gh_kernel.specs.declared.terms.Row.{out-Row, roll-Row}
-use Rattle.gh_kernel.specs.Erase.{unit, erased, erased_binding, erased_body, erased_pattern, erased_row}
+use Rattle.gh_kernel.specs.Erase.{unit, erased, erased_binding, erased_body, erased_pattern}
 use Rattle.gh_kernel.proofs.Shapes.{push_mapped, row_at}
 use Rattle.gh_kernel.proofs.erasing.+erase.Goals as goal
 
@@ -17,16 +17,16 @@ erase_row-returns g t c =
 
 pub erase_terms-loop-term-preserved : goal.erase_terms-loop-term-preserved
 erase_terms-loop-term-preserved g t c =
-    push_mapped erased c.args.terms.now c.loop-term.term-index c.loop-term.made c.push.new.self c.term-item.result c.in_ok-erase.field-0
-    (omega arith) c.term-item.is c.in_ok-erase.ensures c.loop-term.invariant c.in_ok-push.ensures.ok
+    push_mapped erased c.args.terms.now c.loop-term.term-index c.loop-term.made c.push.new.self c.term-item.result c.in_ok-erase_term.field-0
+    (omega arith) c.term-item.is c.in_ok-erase_term.ensures c.loop-term.invariant c.in_ok-push.ensures.ok
 
 pub erase_bodies-loop-guard-preserved : goal.erase_bodies-loop-guard-preserved
 erase_bodies-loop-guard-preserved g t c =
-    let item : (o : Option (Term unit)) → o ≡ option_map erased c.loop-guard-item.result.0 → c.push.new.self ≡ c.loop-guard.made ++ (o, c.in_ok-erase.field-0) ∷ []
+    let item : (o : Option (Term unit)) → o ≡ option_map erased c.loop-guard-item.result.0 → c.push.new.self ≡ c.loop-guard.made ++ (o, c.in_ok-erase_term.field-0) ∷ []
     → c.push.new.self ≡ map erased_body (take (c.loop-guard.guard-index + 1) c.args.bodies.now)
-    = λ o is pushed. push_mapped erased_body c.args.bodies.now c.loop-guard.guard-index c.loop-guard.made c.push.new.self c.loop-guard-item.result (o, c.in_ok-erase.field-0)
-    (omega arith) c.loop-guard-item.is (λ i. (is i, c.in_ok-erase.ensures i)) c.loop-guard.invariant pushed in
+    = λ o is pushed. push_mapped erased_body c.args.bodies.now c.loop-guard.guard-index c.loop-guard.made c.push.new.self c.loop-guard-item.result (o, c.in_ok-erase_term.field-0)
+    (omega arith) c.loop-guard-item.is (λ i. (is i, c.in_ok-erase_term.ensures i)) c.loop-guard.invariant pushed in
     elim c.match-guard.branch [
-      | erase_bodies-in-Some+in_ok-erase-in-Some w ↦ item c.match-guard.guard (w.guard-is ∙ (λ i. Some (w.in_ok-erase-in-Some.ensures i)) ∙ sym (ap (option_map erased) w.in-Some.is)) c.in_ok-push.ensures.ok
+      | erase_bodies-in-Some+in_ok-erase_term-in-Some w ↦ item c.match-guard.guard (w.guard-is ∙ (λ i. Some (w.in_ok-erase_term-in-Some.ensures i)) ∙ sym (ap (option_map erased) w.in-Some.is)) c.in_ok-push.ensures.ok
       | erase_bodies-in-None w ↦ item c.match-guard.guard (w.guard-is ∙ sym (ap (option_map erased) w.in-None.is)) c.in_ok-push.ensures.ok
     ]

@@ -1,4 +1,4 @@
-use Rattle.std.proofs.Common.{◌≡◌, ◌-◌, ◌+◌, ◌<◌, ◌≤◌, ℕ, suc, length, take, drop, get_or, [], ◌∷◌, ◌++◌, refl, sym, ap, ◌∙◌, subst, arith, add-one, drop-cons, vec_len}
+use Rattle.std.proofs.Common.{◌≡◌, suc, length, arith}
 use Rattle.gh_machine.specs.declared.closure.Cell.{Cell}
 use Rattle.gh_machine.proofs.Bound.{bound_name}
 use Rattle.gh_machine.proofs.bind.bind.Goals as goal

@@ -1,9 +1,9 @@
-use Rattle.std.proofs.Common.{◌≡◌, ◌-◌, ◌+◌, ◌<◌, ◌≤◌, ℕ, suc, length, take, drop, get_or, [], ◌∷◌, ◌++◌, refl, sym, ap, ◌∙◌, subst, arith, add-one, drop-cons, vec_len, length-drop}
+use Rattle.std.proofs.Common.{◌≡◌, ◌-◌, suc, length, get_or, [], refl, ap, ◌∙◌, subst, arith, length-drop}
 use Rattle.gh_core.specs.Reduce.{args_of}
 use Rattle.gh_machine.specs.Unload.{envs_of}
 use Rattle.gh_machine.specs.Stacks.{stack_in}
 use Rattle.gh_machine.specs.Sound.{IsBound}
-use Rattle.gh_machine.proofs.Bound.{bound_none, bound_more, from_place}
+use Rattle.gh_machine.proofs.Bound.{bound_more, from_place}
 use Rattle.gh_machine.proofs.Stacks.{args_from}
 use Rattle.gh_machine.proofs.bind.bind_args.Goals as goal
 

@@ -1,4 +1,4 @@
-use Rattle.std.proofs.Common.{◌≡◌, ◌+◌, map, Some, sym, ap, ◌∙◌}
+use Rattle.std.proofs.Common.{◌≡◌, map, Some, sym, ap, ◌∙◌}
 use Rattle.gh_core.specs.Closing.{close}
 use Rattle.gh_core.specs.Reading.{term_of}
 use Rattle.gh_core.specs.Read.{bind_of, term_of-LetRec}

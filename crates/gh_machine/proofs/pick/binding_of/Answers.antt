@@ -1,4 +1,4 @@
-use Rattle.std.proofs.Common.{ap, ◌∙◌, sym}
+use Rattle.std.proofs.Common.{ap, ◌∙◌}
 use Rattle.std.specs.Prelude.{slice_get}
 use Rattle.gh_core.specs.Reading.{term_of}
 use Rattle.gh_machine.proofs.Picks.{binding_some, binding_none}

@@ -1,4 +1,4 @@
-use Rattle.std.proofs.Common.{◌≡◌, ap, ◌∙◌, sym, drop, map, subst, length, ◌∷◌, [], get_or, arith}
+use Rattle.std.proofs.Common.{ap, ◌∙◌, sym, drop, map, subst, length, get_or, arith}
 use Rattle.std.specs.Prelude.{slice_get, option_map}
 use Rattle.gh_core.specs.Reading.{term_of, alt_of, alts_of}
 use Rattle.gh_core.specs.Read.{alt_of-Con, alt_of-Int, alt_of-Char}

@@ -1,4 +1,4 @@
-use Rattle.std.proofs.Common.{◌≡◌, ◌-◌, ◌+◌, ◌<◌, ◌≤◌, ℕ, suc, length, take, drop, get_or, [], ◌∷◌, ◌++◌, refl, sym, ap, ◌∙◌, subst, arith, add-one, drop-cons, vec_len}
+use Rattle.std.proofs.Common.{◌≤◌, subst}
 use Rattle.gh_machine.specs.Stacks.{env_of_frame}
 use Rattle.gh_machine.proofs.stack.arg_at.Goals as goal
 

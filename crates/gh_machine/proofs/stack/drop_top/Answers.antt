@@ -1,4 +1,4 @@
-use Rattle.std.proofs.Common.{◌≡◌, ◌-◌, ◌+◌, ◌<◌, ◌≤◌, ℕ, suc, length, take, drop, get_or, [], ◌∷◌, ◌++◌, refl, sym, ap, ◌∙◌, subst, arith, add-one, drop-cons, vec_len}
+use Rattle.std.proofs.Common.{◌≡◌, ◌-◌, length, take, [], sym, ap, ◌∙◌, subst, arith}
 use Rattle.gh_machine.specs.Stacks.{stack_in, AreWithin}
 use Rattle.gh_machine.proofs.Stacks.{drop_stack, within_take}
 use Rattle.gh_machine.proofs.stack.drop_top.Goals as goal

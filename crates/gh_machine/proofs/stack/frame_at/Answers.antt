@@ -1,4 +1,4 @@
-use Rattle.std.proofs.Common.{◌≡◌, ◌-◌, ◌+◌, ◌<◌, ◌≤◌, ℕ, suc, length, take, drop, get_or, [], ◌∷◌, ◌++◌, refl, sym, ap, ◌∙◌, subst, arith, add-one, drop-cons, vec_len}
+use Rattle.std.proofs.Common.{◌-◌, length, arith}
 use Rattle.gh_machine.proofs.Stacks.{frame_is, frame_none, within_at}
 use Rattle.gh_machine.proofs.stack.frame_at.Goals as goal
 

@@ -1,4 +1,4 @@
-use Rattle.std.proofs.Common.{◌≡◌, ◌-◌, ◌+◌, ◌<◌, ◌≤◌, ℕ, suc, length, take, drop, get_or, [], ◌∷◌, ◌++◌, refl, sym, ap, ◌∙◌, subst, arith, add-one, drop-cons, vec_len}
+use Rattle.std.proofs.Common.{[], sym, ap, ◌∙◌, subst}
 use Rattle.gh_machine.specs.Stacks.{stack_in, AreWithin}
 use Rattle.gh_machine.proofs.Stacks.{stack_in-push, within-push}
 use Rattle.gh_machine.proofs.stack.push_frame.Goals as goal

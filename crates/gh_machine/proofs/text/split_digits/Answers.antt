@@ -1,8 +1,7 @@
-use Rattle.std.proofs.Common.{◌≡◌, ◌+◌, ◌<◌, ℕ, ℤ, length, drop, get_or, ◌∷◌, refl, sym, ap, ◌∙◌, subst, arith, add-one, drop-cons}
+use Rattle.std.proofs.Common.{◌+◌, ◌<◌, ℕ, ℤ, length, drop, get_or, ◌∷◌, refl, sym, ap, ◌∙◌, subst, arith, add-one, drop-cons}
 use Rattle.std.specs.Fmt.{signed_decimal}
 use Rattle.std.proofs.Math.Facts.{to_z-of_z}
 use Rattle.gh_machine.specs.Texts.{IsPair}
-use Rattle.gh_machine.specs.declared.text.Pair.{Pair}
 use Rattle.gh_machine.specs.declared.closure.Closure.TheVariants.{Digit, Digits}
 use Rattle.gh_machine.proofs.text.split_digits.Goals as goal
 

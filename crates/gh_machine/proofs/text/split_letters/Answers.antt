@@ -1,4 +1,4 @@
-use Rattle.std.proofs.Common.{◌≡◌, ◌-◌, ◌+◌, ◌<◌, ◌≤◌, ℕ, suc, length, take, drop, get_or, [], ◌∷◌, ◌++◌, refl, sym, ap, ◌∙◌, subst, arith, add-one, drop-cons, vec_len}
+use Rattle.std.proofs.Common.{◌+◌, length, drop, get_or, ◌∷◌, refl, sym, ap, ◌∙◌, arith, add-one, drop-cons}
 use Rattle.gh_core.specs.Reading.{term_of}
 use Rattle.gh_machine.specs.Unload.{chars_in}
 use Rattle.gh_machine.proofs.text.split_letters.Goals as goal

@@ -1,4 +1,4 @@
-use Rattle.std.proofs.Common.{◌≡◌, ◌∷◌, [], refl, sym, ap, ◌∙◌, arith, subst}
+use Rattle.std.proofs.Common.{◌∷◌, [], refl, sym, ap, ◌∙◌, arith, subst}
 use Rattle.gh_core.specs.Reading.{term_of}
 use Rattle.gh_core.specs.Closing.{close, put}
 use Rattle.gh_core.specs.Reduce.{demand}
@@ -21,6 +21,6 @@ returns-in-Some c =
     let one = c.in-Some.one in
     let b = term_of one.body.now in
     let v = close (contents_in T) ρ in
-    let on = subst (λ nt. IsOnNewtype nt T one) c.as_slice.ensures c.in-Some.ensures in
+    let on = subst (λ nt. IsOnNewtype nt T one) c.newtypes.ensures c.in-Some.ensures in
     led_bound p (record { program = p.program; cells = c.bind-top.new.cells; stack = p.stack; demand = p.demand; turn = p.turn; pending = p.pending }) c.go_without.new.self 0 c.bind-top.result b (put ρ one.name v) _ c.requires.held c.bind-top.ensures.bound refl refl refl (omega arith) c.go_without.ensures.leads (omega (arith, c.go_without.ensures.less, c.bind-top.ensures.len))
     (sym (on ρ ws p.pending.items ∙ ap (λ t. demand t ws p.pending.items) (close_chosen b ρ (one.name ∷ []) (v ∷ []) refl)))

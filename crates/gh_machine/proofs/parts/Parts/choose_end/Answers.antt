@@ -1,4 +1,4 @@
-use Rattle.std.proofs.Common.{◌≡◌, ap, ◌∙◌, sym, refl, drop, []}
+use Rattle.std.proofs.Common.{ap, ◌∙◌, sym, refl, drop, []}
 use Rattle.gh_core.specs.Reading.{term_of}
 use Rattle.gh_core.specs.Closing.{close_alts}
 use Rattle.gh_core.specs.Reduce.{choose, demand}

@@ -1,4 +1,4 @@
-use Rattle.std.proofs.Common.{◌≡◌, ◌≤◌, ◌+◌, [], ◌∷◌, drop, length, sym, subst, ap, ◌∙◌, true, false, arith}
+use Rattle.std.proofs.Common.{◌≡◌, ◌≤◌, ◌+◌, [], drop, length, sym, subst, ap, ◌∙◌, true, false}
 use Rattle.gh_core.specs.Primitives.{same_origin}
 use Rattle.gh_core.specs.Reduce.{give, args_of}
 use Rattle.gh_machine.specs.Unload.{envs_of}

@@ -1,4 +1,4 @@
-use Rattle.std.proofs.Common.{◌≡◌, ◌-◌, ◌+◌, ◌<◌, ◌≤◌, ℕ, suc, length, take, drop, get_or, [], ◌∷◌, ◌++◌, refl, sym, ap, ◌∙◌, subst, arith, add-one, drop-cons, vec_len, length-drop}
+use Rattle.std.proofs.Common.{◌≡◌, length, ◌∷◌, refl, ap, ◌∙◌, arith}
 use Rattle.gh_core.specs.Reduce.{at, printing}
 use Rattle.gh_machine.specs.Unload.{envs_of, closed_in}
 use Rattle.gh_machine.proofs.Stacks.{stack_empty}

@@ -1,4 +1,4 @@
-use Rattle.std.proofs.Common.{◌+◌, sym, ap, ◌∙◌, arith}
+use Rattle.std.proofs.Common.{◌+◌, ap, arith}
 use Rattle.gh_machine.specs.Sound.{program_in, state_of}
 use Rattle.gh_machine.specs.Values.{status_of, cause_of}
 use Rattle.gh_machine.proofs.Runs.{run_none, run_more, less_room, run_over, stays_ended, stays_failed}

@@ -1,4 +1,4 @@
-use Rattle.std.proofs.Common.{◌≡◌, ◌+◌, length, [], drop, refl, sym, ap, ◌∙◌, arith, subst}
+use Rattle.std.proofs.Common.{◌+◌, length, [], drop, refl, sym, ap, ◌∙◌, arith, subst}
 use Rattle.gh_core.specs.Reading.{term_of}
 use Rattle.gh_core.specs.Closing.{put_all}
 use Rattle.gh_core.specs.Reduce.{args_of, demand}

@@ -1,9 +1,6 @@
-use Rattle.std.proofs.Common.{◌≡◌, ◌≤◌, length, [], drop, refl, sym, ap, ◌∙◌, arith, subst}
+use Rattle.std.proofs.Common.{◌≤◌, length, refl, arith}
 use Rattle.gh_core.specs.Reading.{term_of}
-use Rattle.gh_core.specs.Closing.{close, put}
-use Rattle.gh_core.specs.Reduce.{demand}
-use Rattle.gh_machine.specs.Unload.{envs_of, env_in, env_of, code_in, closed_in}
-use Rattle.gh_machine.specs.Sound.{IsBound}
+use Rattle.gh_machine.specs.Unload.{env_of}
 use Rattle.gh_machine.proofs.Bound.{bound_two}
 use Rattle.gh_machine.proofs.Moves.{held_bound, led_bound}
 use Rattle.gh_machine.proofs.parts.Parts.take_pair.Goals as goal

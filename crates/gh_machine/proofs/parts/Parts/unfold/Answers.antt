@@ -1,5 +1,5 @@
-use Rattle.std.proofs.Common.{ap, ◌∙◌, []}
-use Rattle.gh_core.specs.Reading.{term_of, defs_of}
+use Rattle.std.proofs.Common.{[]}
+use Rattle.gh_core.specs.Reading.{term_of}
 use Rattle.gh_core.specs.Reduce.{defined}
 use Rattle.gh_machine.specs.Unload.{envs_of}
 use Rattle.gh_machine.specs.Stacks.{stack_in}
@@ -13,4 +13,4 @@ returns-in-Some c =
     let ws = stack_in (envs_of p.cells.items) [] p.stack.items in
     leads_to p c.go_without.new.self _ _ c.go_without.ensures.leads
     (unfolded p.cells.items (defined (program_in p).defs c.args.name) (term_of c.in-Some.term.now) ws p.pending.items (state_of p)
-    (c.in-Some.ensures ∙ ap (λ ds. defined (defs_of ds) c.args.name) c.as_slice.ensures))
+    c.in-Some.ensures)

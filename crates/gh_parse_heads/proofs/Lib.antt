@@ -1,0 +1,6 @@
+pub mod Complete
+pub mod ImportsComplete
+pub mod ImportsSound
+pub mod ImportsWhole
+pub mod Sound
+pub mod Whole

@@ -1,0 +1,23 @@
+use Rattle.std.proofs.Common.{rules, List, arith, subst, sym, ap, ◌∙◌}
+use Rattle.std.proofs.lemmas.Grind.{common_steps}
+use Rattle.gh_tree.specs.declared.symbol.Sym.{Sym}
+use Rattle.gh_reader.specs.Reads.{Fails}
+use Rattle.gh_parse_heads.specs.Header.{header, Refuses}
+use Rattle.gh_parse_heads.proofs.Whole.{spelled, spelled_none, refused, refused_rest}
+use Rattle.gh_parse_heads.proofs.header.parse_header.Goals as goal
+
+pub returns-then-is_empty : goal.returns-then-is_empty
+returns-then-is_empty c = spelled_none c.args.syms.now (search rules)
+
+pub returns-in_err-found : goal.returns-in_err-found
+returns-in_err-found c =
+    let e : Refuses c.in_err-found.field-0.0 c.args.syms.now =
+    refused c.in_err-found.field-0.0 c.args.syms.now (search rules) (subst (λ (ss : List Sym). Fails c.in_err-found.field-0.0 (header ss)) c.new-tokens.ensures c.in_err-found.ensures) in
+    first_of (search rules, grind (arith, common_steps))
+
+pub returns-then-not-is_empty : goal.returns-then-not-is_empty
+returns-then-not-is_empty c =
+    refused_rest c.args.syms.now c.header.new.tokens c.in_ok-found.found (search rules) (sym (ap header c.new-tokens.ensures) ∙ c.in_ok-found.ensures) (search rules)
+
+pub returns : goal.returns
+returns c = spelled c.args.syms.now c.header.new.tokens c.in_ok-found.found (sym (ap header c.new-tokens.ensures) ∙ c.in_ok-found.ensures) (search rules)
