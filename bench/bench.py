@@ -76,3 +76,29 @@ def chain(size):
 
 table("a run through a chain of bindings", "bindings", [5000 * 2 ** k for k in range(4)], chain,
       lambda path, size: [GENHS, "run", "--steps", "2000000", path])
+
+
+def layout_chain(size):
+    items = ["main = b0"] + [f'b{i} = "x" ++ b{i + 1}' for i in range(size - 2)] + [f'b{size - 2} = "x"']
+    return "\n".join(items).encode()
+
+
+table("a check of joined bindings, by layout", "bindings", [5000 * 2 ** k for k in range(4)], layout_chain,
+      lambda path, size: [GENHS, "check", path])
+
+
+def peak(command):
+    """The greatest memory of a process, in bytes."""
+    child = subprocess.Popen(command, stdout=subprocess.DEVNULL, stderr=subprocess.DEVNULL)
+    _, _, usage = os.wait4(child.pid, 0)
+    return usage.ru_maxrss * 1024
+
+
+print('a run that prints for ever: main = "ab" ++ main')
+endless = os.path.join(work, "endless.hs")
+with open(endless, "w") as file:
+    file.write('module Main where { main = "ab" ++ main }\n')
+for steps in (250000, 500000, 1000000, 2000000):
+    run = [GENHS, "run", "--steps", str(steps), endless]
+    ms = best(run)
+    print(f"  {steps:>9} reductions  {ms:9.1f} ms   {steps / ms / 1000:6.2f} million a second   {peak(run) / 2 ** 20:8.1f} MiB")

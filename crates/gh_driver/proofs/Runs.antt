@@ -1,130 +1,126 @@
--- What a run prints.
-use Rattle.std.proofs.Common.{◌≡◌, ℕ, zero, suc, ◌+◌, ◌<◌, ◌≤◌, true, false, List, [], ◌∷◌, ◌++◌, length, take, Option, None, Some, refl, sym, ap, ◌∙◌, arith, append_assoc, append-nil, option_map, drop, get_or, min, take-append-drop}
-use Rattle.std.proofs.lemmas.List.{take_more, take_all, get_or_past}
-use Rattle.std.proofs.lemmas.Str.{encodes-append}
-use Rattle.std.specs.Char.{encode_utf8}
-use Rattle.std.specs.Str.{encode_utf8_all}
+-- A run that is made piece by piece, what each piece prints being put away.
+use Rattle.std.proofs.Common.{◌≡◌, ℕ, zero, suc, ◌+◌, ◌-◌, ◌≤◌, List, [], ◌∷◌, ◌++◌, Option, refl, sym, ap, ◌∙◌, subst, arith, append_assoc, append-nil}
+use Rattle.gh_base.specs.declared.place.Span.{Span}
+use Rattle.gh_core.specs.declared.erased.Erased.{Erased}
+use Rattle.gh_core.specs.Primitives.{Cause}
+use Rattle.gh_core.specs.Reduce.{Status, running, ended, failed, State, Program, reductions}
+use Rattle.gh_core.specs.Run.{program_of}
 use Rattle.gh_outside.specs.Outside.{Appends, AppendsFront}
-use Rattle.gh_driver.specs.Core.{reduced, core_run, is_over, has_ended, printed_by}
-use Rattle.gh_driver.specs.declared.terms.Term.TheVariants.{Global, Text}
-use Rattle.gh_driver.specs.declared.terms.Program.{Program}
+use Rattle.gh_machine.specs.Prefix.{with_out}
+use Rattle.gh_driver.proofs.Appended.{appends_then, appends_none, front_joined}
+use Rattle.gh_driver.proofs.Prefixes.{before, reductions_before, reductions_more, reductions_over}
 
-take_nothing : (n : ℕ) → take n (let x : List ℕ = [] in x) ≡ []
-take_nothing zero = refl
-take_nothing (suc n) = refl
+-- after so many reductions from a state, these bytes were put away, and another state is left
+abbrev pub Stands : Program → State → State → ℕ → List ℕ → Type 0
+Stands p from now made printed = reductions p made from ≡ before printed now
 
-printed_from : (n : ℕ) (p : Program) (cs out : List ℕ) → (reduced n p (Text cs) out).printed ≡ out ++ encode_utf8_all (take n cs)
-printed_from zero p cs out = sym (append-nil out)
-printed_from (suc n) p [] out = printed_from n p [] out ∙ ap (λ x. out ++ encode_utf8_all x) (take_nothing n)
-printed_from (suc n) p (c ∷ cs) out = printed_from n p cs (out ++ encode_utf8 c) ∙ append_assoc out (encode_utf8 c) (encode_utf8_all (take n cs))
+pub begun : (p : Program) (s : State) → Stands p s s 0 []
+unfolding reductions
+begun p s = refl
 
-over_from : (n : ℕ) (p : Program) (cs out : List ℕ) → length cs ≤ n → is_over (reduced n p (Text cs) out).term ≡ true
-over_from zero p [] out h = refl
-over_from zero p (c ∷ cs) out h = absurd (omega arith)
-over_from (suc n) p [] out h = over_from n p [] out (omega arith)
-over_from (suc n) p (c ∷ cs) out h = over_from n p cs (out ++ encode_utf8 c) (omega arith)
+before_twice : (a b : List ℕ) (s : State) → before a (before b s) ≡ before (a ++ b) s
+before_twice a b s = ap (λ o. record { focus = s.focus; stack = s.stack; out = o; status = s.status }) (sym (append_assoc a b s.out))
 
-going_from : (n : ℕ) (p : Program) (cs out : List ℕ) → n < length cs → is_over (reduced n p (Text cs) out).term ≡ false
-going_from zero p [] out h = absurd (omega arith)
-going_from zero p (c ∷ cs) out h = refl
-going_from (suc n) p [] out h = absurd (omega arith)
-going_from (suc n) p (c ∷ cs) out h = going_from n p cs (out ++ encode_utf8 c) (omega arith)
+module _ (p : Program) (from now : State) (made : ℕ) (printed : List ℕ) (is : Stands p from now made printed) where
+  pub went : (k : ℕ) (after cleared : State) → after ≡ reductions p k now → after ≡ before after.out cleared → Stands p from cleared (made + k) (printed ++ after.out)
+  went k after cleared e f =
+      reductions_more p made k from ∙ ap (reductions p k) is ∙ reductions_before printed p k now ∙ ap (before printed) (sym e ∙ f) ∙ before_twice printed after.out cleared
 
-pub text_printed : (p : Program) (cs : List ℕ) (n : ℕ) → (reduced n p (Text cs) []).printed ≡ encode_utf8_all (take n cs)
-text_printed p cs n = printed_from n p cs []
+  pub printed_is : now.out ≡ [] → (reductions p made from).out ≡ printed
+  printed_is e = ap (λ s. s.out) is ∙ ap (λ o. printed ++ o) e ∙ append-nil printed
 
-pub text_whole : (p : Program) (cs : List ℕ) (n : ℕ) → length cs ≤ n → (reduced n p (Text cs) []).printed ≡ encode_utf8_all cs
-text_whole p cs n h = printed_from n p cs [] ∙ ap encode_utf8_all (take_all n cs h)
+  pub status_is : (reductions p made from).status ≡ now.status
+  status_is = ap (λ s. s.status) is
 
-pub text_over : (p : Program) (cs : List ℕ) (n : ℕ) → length cs ≤ n → is_over (reduced n p (Text cs) []).term ≡ true
-text_over p cs n h = over_from n p cs [] h
+  later : (n : ℕ) → made ≤ n → reductions p n from ≡ before printed (reductions p (n - made) now)
+  later n h =
+      let same : n ≡ made + (n - made) = omega (arith, h) in
+      ap (λ k. reductions p k from) same ∙ reductions_more p made (n - made) from ∙ ap (reductions p (n - made)) is ∙ reductions_before printed p (n - made) now
 
-pub text_going : (p : Program) (cs : List ℕ) (n : ℕ) → n < length cs → is_over (reduced n p (Text cs) []).term ≡ false
-text_going p cs n h = going_from n p cs [] h
+  pub stays_over : (now.status ≡ running → ⊥) → (n : ℕ) → made ≤ n → Stands p from now n printed
+  stays_over over n h = later n h ∙ ap (before printed) (reductions_over p (n - made) now over)
 
--- a global without a definition stays
-pub stays : (n : ℕ) (p : Program) (at : ℕ) (out : List ℕ) → length p.definitions ≤ at → reduced n p (Global at) out ≡ record { term = Global at; printed = out }
-stays zero p at out h = refl
-stays (suc n) p at out h = ap (λ t. reduced n p t out) (get_or_past p.definitions at (Global at) h) ∙ stays n p at out h
+  pub printed_first : (n : ℕ) → made ≤ n → (rest : List ℕ) × ((reductions p n from).out ≡ printed ++ rest)
+  printed_first n h = ((reductions p (n - made) now).out, ap (λ s. s.out) (later n h))
 
-pub started : (p : Program) (steps : ℕ) → core_run p steps ≡ reduced steps p (Global p.main) []
-unfolding core_run
-started p steps = refl
+-- what was put so far, and a part of the next piece, is a front of what is printed in the end
+pub front_put : (p : Program) (from now : State) (made : ℕ) (printed : List ℕ) → Stands p from now made printed → (k : ℕ) (after cleared : State) → after ≡ reductions p k now
+    → after ≡ before after.out cleared → (n : ℕ) → made + k ≤ n → (a b c : Option (List ℕ)) → Appends a printed b → AppendsFront b after.out c → AppendsFront a (reductions p n from).out c
+front_put p from now made printed is k after cleared e f n h a b c g j =
+    let w : Stands p from cleared (made + k) (printed ++ after.out) = went p from now made printed is k after cleared e f in
+    let r : (rest : List ℕ) × ((reductions p n from).out ≡ (printed ++ after.out) ++ rest) = printed_first p from cleared (made + k) (printed ++ after.out) w n h in
+    front_joined a b c (reductions p n from).out printed after.out r.0 (r.1 ∙ append_assoc printed after.out r.0) g j
 
--- a run that has come to a global by its last reduction, or to one without a definition
-module _ (p : Program) (steps n at : ℕ) (is : core_run p steps ≡ reduced n p (Global at) []) where
-  at_last : n ≡ 0 → core_run p steps ≡ record { term = Global at; printed = [] }
-  at_last e = is ∙ ap (λ m. reduced m p (Global at) []) e
+-- a run of which so many reductions are made, all that they printed was put, and nothing is kept back
+pub record IsMade (p : Program) (from now : State) (made : ℕ) (a b : Option (List ℕ)) : Type 0 where
+  pub printed : List ℕ
+  pub stands : Stands p from now made printed
+  pub put : Appends a printed b
+  pub clear : now.out ≡ []
 
-  pub last_going : n ≡ 0 → has_ended p steps ≡ false
-  unfolding has_ended
-  last_going e = ap (λ r. is_over r.term) (at_last e)
+pub made_none : (p : Program) (s : State) (a : Option (List ℕ)) → s.out ≡ [] → IsMade p s s 0 a a
+made_none p s a e = record { printed = []; stands = begun p s; put = appends_none a; clear = e }
 
-  pub last_quiet : n ≡ 0 → printed_by p steps ≡ []
-  unfolding printed_by
-  last_quiet e = ap (λ r. r.printed) (at_last e)
+cleared_is : (s : State) → s ≡ before s.out (with_out [] s)
+cleared_is s = ap (λ o. record { focus = s.focus; stack = s.stack; out = o; status = s.status }) (sym (append-nil s.out))
 
-  pub stuck_going : length p.definitions ≤ at → has_ended p steps ≡ false
-  unfolding has_ended
-  stuck_going h = ap (λ r. is_over r.term) (is ∙ stays n p at [] h)
+module _ (p : Program) (from now : State) (made : ℕ) (a b : Option (List ℕ)) (m : IsMade p from now made a b) where
+  pub made_more : (k n : ℕ) (new : State) (c : Option (List ℕ)) → n ≡ made + k → new ≡ with_out [] (reductions p k now) → Appends b (reductions p k now).out c → IsMade p from new n a c
+  made_more k n new c sum e g =
+      let after : State = reductions p k now in
+      let w : Stands p from (with_out [] after) (made + k) (m.printed ++ after.out) = went p from now made m.printed m.stands k after (with_out [] after) refl (cleared_is after) in
+      let P : ℕ → Type 0 = λ i. Stands p from new i (m.printed ++ after.out) in
+      let Q : State → Type 0 = λ s. Stands p from s (made + k) (m.printed ++ after.out) in
+      record {
+        printed = m.printed ++ after.out;
+        stands = subst P (sym sum) (subst Q (sym e) w);
+        put = appends_then a b c m.printed after.out m.put g;
+        clear = ap (λ s. s.out) e;
+      }
 
-  pub stuck_quiet : length p.definitions ≤ at → printed_by p steps ≡ []
-  unfolding printed_by
-  stuck_quiet h = ap (λ r. r.printed) (is ∙ stays n p at [] h)
+  pub made_out : Appends a (reductions p made from).out b
+  made_out = rw (printed_is p from now made m.printed m.stands m.clear) m.put
 
-pub appends_then : (a b c : Option (List ℕ)) (x y : List ℕ) → Appends a x b → Appends b y c → Appends a (x ++ y) c
-appends_then None b c x y f g = g ∙ ap (option_map (λ z. z ++ y)) f
-appends_then (Some s) b c x y f g = g ∙ ap (option_map (λ z. z ++ y)) f ∙ ap Some (append_assoc s x y)
+  pub made_status : (reductions p made from).status ≡ now.status
+  made_status = status_is p from now made m.printed m.stands
 
-pub appends_none : (a : Option (List ℕ)) → Appends a [] a
-appends_none None = refl
-appends_none (Some s) = ap Some (sym (append-nil s))
+  pub made_over : (now.status ≡ running → ⊥) → (n : ℕ) → made ≤ n → IsMade p from now n a b
+  made_over over n h = record { printed = m.printed; stands = stays_over p from now made m.printed m.stands over n h; put = m.put; clear = m.clear }
 
-pub one_more : (xs : List ℕ) (i x : ℕ) → i < length xs → x ≡ get_or xs i x → encode_utf8_all (take (i + 1) xs) ≡ encode_utf8_all (take i xs) ++ encode_utf8 x
-one_more xs i x lt is = ap encode_utf8_all (take_more xs i x lt ∙ ap (λ y. take i xs ++ y ∷ []) (sym is)) ∙ encodes-append (take i xs) (x ∷ [])
-    ∙ ap (λ z. encode_utf8_all (take i xs) ++ z) (append-nil (encode_utf8 x))
+  pub made_front : (k n : ℕ) (c : Option (List ℕ)) → made + k ≤ n → AppendsFront b (reductions p k now).out c → AppendsFront a (reductions p n from).out c
+  made_front k n c h g =
+      let after : State = reductions p k now in
+      front_put p from now made m.printed m.stands k after (with_out [] after) refl (cleared_is after) n h a b c m.put g
 
-front_min : (k : ℕ) (e r : List ℕ) → take (min k (length e)) (e ++ r) ≡ take k e
-front_min zero e r = let same : min 0 (length e) ≡ 0 = omega arith in ap (λ n. take n (e ++ r)) same
-front_min (suc k) [] r = let same : min (suc k) 0 ≡ 0 = omega arith in ap (λ n. take n r) same
-front_min (suc k) (x ∷ e) r =
-    let same : min (suc k) (suc (length e)) ≡ suc (min k (length e)) = omega arith in
-    ap (λ n. take n (x ∷ (e ++ r))) same ∙ ap (λ z. x ∷ z) (front_min k e r)
+-- a piece of a run of so many reductions, of which some are left
+module _ (e f : Erased) (same : f ≡ e) (from now : State) (steps left count : ℕ) (within : left ≤ steps) (few : count ≤ left) (a b c : Option (List ℕ))
+    (m : IsMade (program_of e) from now (steps - left) a b) where
+  pub piece_made : (new : State) → new ≡ with_out [] (reductions (program_of f) count now) → Appends b (reductions (program_of f) count now).out c
+      → IsMade (program_of e) from new (steps - (left - count)) a c
+  piece_made new is put =
+      let P : Erased → Type 0 = λ x. new ≡ with_out [] (reductions (program_of x) count now) in
+      let Q : Erased → Type 0 = λ x. Appends b (reductions (program_of x) count now).out c in
+      made_more (program_of e) from now (steps - left) a b m count (steps - (left - count)) new c (omega (arith, within, few)) (subst P same is) (subst Q same put)
 
-take_past : (a b : List ℕ) (k : ℕ) → take (length a + k) (a ++ b) ≡ a ++ take k b
-take_past [] b k = let same : 0 + k ≡ k = omega arith in ap (λ n. take n b) same
-take_past (x ∷ a) b k =
-    let same : suc (length a) + k ≡ suc (length a + k) = omega arith in
-    ap (λ n. take n (x ∷ (a ++ b))) same ∙ ap (λ z. x ∷ z) (take_past a b k)
+  pub piece_front : AppendsFront b (reductions (program_of f) count now).out c → AppendsFront a (reductions (program_of e) steps from).out c
+  piece_front put =
+      let Q : Erased → Type 0 = λ x. AppendsFront b (reductions (program_of x) count now).out c in
+      made_front (program_of e) from now (steps - left) a b m count steps c (omega (arith, within, few)) (subst Q same put)
 
-take_sum : (n k : ℕ) (xs : List ℕ) → take (n + k) xs ≡ take n xs ++ take k (drop n xs)
-take_sum zero k xs = let same : 0 + k ≡ k = omega arith in ap (λ m. take m xs) same
-take_sum (suc n) k [] = let same : suc n + k ≡ suc (n + k) = omega arith in ap (λ m. take m (let x : List ℕ = [] in x)) same ∙ sym (take_nothing k)
-take_sum (suc n) k (x ∷ xs) =
-    let same : suc n + k ≡ suc (n + k) = omega arith in
-    ap (λ m. take m (x ∷ xs)) same ∙ ap (λ z. x ∷ z) (take_sum n k xs)
+-- a run that is over within its reductions
+module _ (e : Erased) (from now : State) (made steps : ℕ) (a b : Option (List ℕ)) (m : IsMade (program_of e) from now made a b) (r : Status) (over : r ≡ running → ⊥) (is : r ≡ now.status)
+    (within : made ≤ steps) where
+  stays : IsMade (program_of e) from now steps a b
+  stays = made_over (program_of e) from now made a b m (λ h. over (is ∙ h)) steps within
 
-pub piece_more : (xs : List ℕ) (n k : ℕ) → encode_utf8_all (take (n + k) xs) ≡ encode_utf8_all (take n xs) ++ encode_utf8_all (take k (drop n xs))
-piece_more xs n k = ap encode_utf8_all (take_sum n k xs) ∙ encodes-append (take n xs) (take k (drop n xs))
+  pub over_status : (reductions (program_of e) steps from).status ≡ r
+  over_status = made_status (program_of e) from now steps a b stays ∙ sym is
 
-pub put_more : (a b c : Option (List ℕ)) (xs : List ℕ) (n k : ℕ) → Appends a (encode_utf8_all (take n xs)) b → Appends b (encode_utf8_all (take k (drop n xs))) c
-    → Appends a (encode_utf8_all (take (n + k) xs)) c
-put_more a b c xs n k f g = rw (piece_more xs n k) (appends_then a b c (encode_utf8_all (take n xs)) (encode_utf8_all (take k (drop n xs))) f g)
+  pub over_put : Appends a (reductions (program_of e) steps from).out b
+  over_put = made_out (program_of e) from now steps a b stays
 
-pub front_joined : (a b c : Option (List ℕ)) (whole front piece rest : List ℕ) → whole ≡ front ++ (piece ++ rest) → Appends a front b → AppendsFront b piece c → AppendsFront a whole c
-front_joined a b c whole front piece rest is f g =
-    let n : ℕ = length front + min g.0 (length piece) in
-    let cut : take n whole ≡ front ++ take g.0 piece =
-    ap (take n) is ∙ take_past front (piece ++ rest) (min g.0 (length piece)) ∙ ap (λ z. front ++ z) (front_min g.0 piece rest) in
-    (n, rw cut (appends_then a b c front (take g.0 piece) f g.1))
+pub ended_over : ended ≡ running → ⊥
+ended_over h = cc
 
-pub put_less : (a b c : Option (List ℕ)) (xs : List ℕ) (n k : ℕ) → Appends a (encode_utf8_all (take n xs)) b → AppendsFront b (encode_utf8_all (take k (drop n xs))) c
-    → AppendsFront a (encode_utf8_all xs) c
-put_less a b c xs n k f g =
-    let whole : encode_utf8_all xs ≡ encode_utf8_all (take n xs) ++ (encode_utf8_all (take k (drop n xs)) ++ encode_utf8_all (drop k (drop n xs))) =
-    ap encode_utf8_all (sym (take-append-drop n xs)) ∙ encodes-append (take n xs) (drop n xs)
-    ∙ ap (λ z. encode_utf8_all (take n xs) ++ z) (ap encode_utf8_all (sym (take-append-drop k (drop n xs))) ∙ encodes-append (take k (drop n xs)) (drop k (drop n xs))) in
-    front_joined a b c (encode_utf8_all xs) (encode_utf8_all (take n xs)) (encode_utf8_all (take k (drop n xs))) (encode_utf8_all (drop k (drop n xs))) whole f g
-
-pub whole_front : (a b : Option (List ℕ)) (x : List ℕ) → Appends a x b → AppendsFront a x b
-whole_front a b x f = (length x, rw (take_all (length x) x (omega arith)) f)
+pub failed_over : (cause : Cause) (place : Span) → failed cause place ≡ running → ⊥
+failed_over cause place h = cc

@@ -1,15 +1,10 @@
-pub mod Bound
 pub mod Check
 pub mod Codes
 pub mod Core
 pub mod Cycles
-pub mod Grammar
 pub mod Keeping
-pub mod Keeps
 pub mod Lines
-pub mod Meaning
-pub mod Named
-pub mod Program
+pub mod Position
 pub mod Scope
 pub mod Scoping
 pub mod Top

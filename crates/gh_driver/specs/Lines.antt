@@ -11,9 +11,12 @@ use Rattle.gh_base.specs.declared.Refusal.{Refusal}
 use Rattle.gh_base.specs.declared.Refusal.TheVariants.{NotUtf8, NoToken, OpenComment, OpenText, NumberOutOfRange, NameTooLong, BadLayout, Unclosed, NoParse, TooDeep, FixityClash, UnknownModule, CyclicImports, NotExported, DoubleModule, UnknownName, AmbiguousName, DoubleDefinition, UnequalArity, RepeatedVariable, ConstructorArity, SignatureAlone, SynonymCycle, SynonymArity, KindClash, KindTooLarge, TypeClash, TypeTooLarge, BadSignature, NotClosed, BadCaseHead, DoubleCase, MissingDependency, NoCase, BadExtends, FileTooLong, TooManyFiles, NoMain, MainNotText, LimitPassed}
 use Rattle.gh_base.specs.Ids.{text_in}
 use Rattle.gh_base.specs.Refusals.{number_of, span_of}
-use Rattle.gh_first_form.specs.declared.position.Position.{Position}
-use Rattle.gh_first_form.specs.declared.position.TheConstants.{START}
-use Rattle.gh_first_form.specs.Position.{moved_over}
+use Rattle.gh_driver.specs.declared.position.Position.{Position}
+use Rattle.gh_driver.specs.declared.position.TheConstants.{START}
+use Rattle.gh_machine.specs.declared.turn.Stop.{Stop}
+use Rattle.gh_machine.specs.declared.turn.StopCause.{StopCause}
+use Rattle.gh_machine.specs.declared.turn.StopCause.TheVariants as cause
+use Rattle.gh_driver.specs.Position.{moved_over}
 use Rattle.gh_driver.specs.declared.source.Source.{Source}
 
 abbrev pub Table : Type 0
@@ -228,11 +231,6 @@ IsNamed table NoMain = Unit {0}
 IsNamed table (MainNotText s) = Unit {0}
 IsNamed table (LimitPassed s which) = Unit {0}
 
--- the file of a refusal is one of these
-abbrev pub IsIn : List Source → Option Span → Type 0
-IsIn files None = Unit {0}
-IsIn files (Some s) = (1 ≤ s.file) × (s.file ≤ length files)
-
 unfoldable pub usage_line : List ℕ
 usage_line = codes "usage: genhs check FILES, core FILES, run [--steps N] FILES, or sample N" ++ 10 ∷ []
 
@@ -241,3 +239,14 @@ steps_line = codes "genhs: out of steps" ++ 10 ∷ []
 
 unfoldable pub read_line_of : List ℕ → List ℕ
 read_line_of file = codes "genhs: cannot read " ++ (file ++ 10 ∷ [])
+
+-- the name of a cause
+unfoldable pub cause_of : StopCause → List ℕ
+cause_of cause.ErrorCalled = codes "ErrorCalled"
+cause_of cause.NoMatch = codes "NoMatch"
+cause_of cause.DivideByZero = codes "DivideByZero"
+cause_of cause.NoCharacter = codes "NoCharacter"
+
+-- the line of a run that has failed: where in the program, and why
+unfoldable pub stopped_line_of : List Source → Stop → List ℕ
+stopped_line_of files stop = located files stop.span ++ (codes "stopped " ++ (cause_of stop.cause ++ 10 ∷ []))

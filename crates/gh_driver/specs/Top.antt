@@ -1,19 +1,22 @@
 -- What the top call says of its words, the shelf and the outputs, by its status.
-use Rattle.std.specs.Prelude.{◌≡◌, ℕ, Bool, IsTrue, if◌then◌else◌, List, [], ◌∷◌, take, Option, Some, None, ◌⊎◌}
+use Rattle.std.specs.Prelude.{◌≡◌, ℕ, Bool, IsTrue, List, [], ◌∷◌, take, Option, Some, None, ◌⊎◌}
 use Rattle.gh_base.specs.declared.Refusal.{Refusal}
 use Rattle.gh_outside.specs.Outside.{Rose, Reads, Appends, AppendsFront}
 use Rattle.gh_driver.specs.declared.check.Checked.{Checked}
 use Rattle.gh_driver.specs.declared.check.Checked.TheVariants as checked
-use Rattle.gh_driver.specs.declared.terms.Program.{Program}
+use Rattle.gh_bindings.specs.declared.binding.Binding.{Binding}
+use Rattle.gh_core.specs.Reduce as Run
+use Rattle.gh_driver.specs.declared.top.Mode.{Mode}
+use Rattle.gh_driver.specs.declared.top.Mode.TheVariants as mode
 use Rattle.gh_driver.specs.declared.source.Source.{Source}
 use Rattle.gh_driver.specs.declared.status.Status.{Status}
 use Rattle.gh_driver.specs.declared.status.Status.TheVariants as status
 use Rattle.gh_driver.specs.declared.words.Words.{Words}
 use Rattle.gh_driver.specs.declared.words.Words.TheVariants as meaning
 use Rattle.gh_driver.specs.Words.{meaning_of, built_of}
-use Rattle.gh_driver.specs.Lines.{Table, IsNamed, refusal_line_of, usage_line, steps_line, read_line_of}
+use Rattle.gh_driver.specs.Lines.{Table, IsNamed, refusal_line_of, usage_line, steps_line, read_line_of, stopped_line_of}
 use Rattle.gh_driver.specs.Check.{checked_of}
-use Rattle.gh_driver.specs.Core.{has_ended, printed_by}
+use Rattle.gh_driver.specs.Core.{core_seen, stop_of}
 
 -- the outputs before and after, with their counts of faults
 pub record Outputs : Type 0 where
@@ -51,19 +54,35 @@ unread file = record { status = status.ReadFault 0; out = []; err = read_line_of
 abbrev pub refused_by : Table → List Source → Refusal → Answer
 refused_by table files r = record { status = status.Refused r; out = []; err = refusal_line_of table files r }
 
--- the core run ends within n reductions, or goes on
-abbrev pub ran : Program → ℕ → Answer
-ran p n =
-    if has_ended p n then record { status = status.Ended; out = printed_by p n; err = [] }
-    else record { status = status.OutOfSteps; out = printed_by p n; err = steps_line }
+-- the files are accepted
+abbrev pub accepted : Answer
+accepted = record { status = status.Accepted; out = []; err = [] }
 
-abbrev pub checked_answer : Table → ℕ → List ℕ → List ℕ → Checked → Answer
-checked_answer table n file bytes (checked.Refused r) = refused_by table (record { name = file; bytes = bytes } ∷ []) r
-checked_answer table n file bytes (checked.Program p) = ran p n
+-- what was printed, and whether the run goes on, has ended, or has failed
+abbrev pub ran_to : List Source → List ℕ → Run.Status → Answer
+ran_to files out Run.running = record { status = status.OutOfSteps; out = out; err = steps_line }
+ran_to files out Run.ended = record { status = status.Ended; out = out; err = [] }
+ran_to files out (Run.failed why place) = record { status = status.MainFailed (stop_of why place); out = out; err = stopped_line_of files (stop_of why place) }
 
--- the answer to a run of a file with these bytes, for n reductions
-unfoldable pub answer_of : Table → ℕ → List ℕ → List ℕ → Answer
-answer_of table n file bytes = checked_answer table n file bytes (checked_of table bytes)
+-- the core run of `main` within n reductions
+unfoldable pub ran : List Source → List Binding → ℕ → Answer
+ran files bs n = ran_to files (core_seen bs n).out (core_seen bs n).status
+
+-- what is done with a program
+abbrev pub done : List Source → Mode → List Binding → Answer
+done files mode.Check bs = accepted
+done files (mode.Run n) bs = ran files bs n
+
+abbrev pub checked_answer : Table → List Source → Mode → Checked → Answer
+checked_answer table files m (checked.Refused r) = refused_by table files r
+checked_answer table files m (checked.Program bs) = done files m bs
+
+abbrev pub file_of : List ℕ → List ℕ → List Source
+file_of name bytes = record { name = name; bytes = bytes } ∷ []
+
+-- the answer for a file with these bytes
+unfoldable pub answer_of : Table → Mode → List ℕ → List ℕ → Answer
+answer_of table m file bytes = checked_answer table (file_of file bytes) m (checked_of table bytes)
 
 -- the answer is given: its status, its bytes and its line, and nothing else
 pub record Gives (a : Answer) (s : Status) (o : Outputs) : Type 0 where
@@ -112,21 +131,35 @@ abbrev pub Unread : List ℕ → Shelves → Status → Outputs → Type 0
 Unread file shelf s o = Rose (shelf.faults_old file) (shelf.faults_new file) × Answers (unread file) s o
 
 -- the file was read, and its answer follows
-abbrev pub IsRead : Table → ℕ → List ℕ → Shelves → Status → Outputs → Type 0
-IsRead table n file shelf s o = (bytes : List ℕ) × IsFile shelf file bytes × Answers (answer_of table n file bytes) s o
+abbrev pub IsRead : Table → Mode → List ℕ → Shelves → Status → Outputs → Type 0
+IsRead table m file shelf s o = (bytes : List ℕ) × IsFile shelf file bytes × Answers (answer_of table m file bytes) s o
 
-abbrev pub Runs : Table → ℕ → List ℕ → Shelves → Status → Outputs → Type 0
-Runs table n file shelf s o = Unread file shelf s o ⊎ IsRead table n file shelf s o
+abbrev pub Does : Table → Mode → List ℕ → Shelves → Status → Outputs → Type 0
+Does table m file shelf s o = Unread file shelf s o ⊎ IsRead table m file shelf s o
+
+-- what the words ask for: something to do with one file
+pub record Task : Type 0 where
+  pub mode : Mode
+  pub file : List ℕ
+
+abbrev pub task : Mode → List ℕ → Task
+task m file = record { mode = m; file = file }
+
+abbrev pub task_of : Option Words → Option Task
+task_of None = None
+task_of (Some (meaning.Run n [])) = None
+task_of (Some (meaning.Run n (file ∷ []))) = Some (task (mode.Run n) file)
+task_of (Some (meaning.Run n (file ∷ more ∷ rest))) = None
+task_of (Some (meaning.Check [])) = None
+task_of (Some (meaning.Check (file ∷ []))) = Some (task mode.Check file)
+task_of (Some (meaning.Check (file ∷ more ∷ rest))) = None
+task_of (Some (meaning.Core files)) = None
+task_of (Some (meaning.Sample k)) = None
 
 -- what follows from the meaning of the words
-abbrev pub Asked : Table → Option Words → Shelves → Status → Outputs → Type 0
+abbrev pub Asked : Table → Option Task → Shelves → Status → Outputs → Type 0
 Asked table None shelf s o = Answers misused s o
-Asked table (Some (meaning.Run n [])) shelf s o = ⊥
-Asked table (Some (meaning.Run n (file ∷ []))) shelf s o = Runs table n file shelf s o
-Asked table (Some (meaning.Run n (file ∷ more ∷ rest))) shelf s o = ⊥
-Asked table (Some (meaning.Check files)) shelf s o = ⊥
-Asked table (Some (meaning.Core files)) shelf s o = ⊥
-Asked table (Some (meaning.Sample k)) shelf s o = ⊥
+Asked table (Some t) shelf s o = Does table t.mode t.file shelf s o
 
 -- there was not memory enough, and nothing was written to out
 abbrev pub NoRoom : Status → Outputs → Type 0
@@ -134,7 +167,7 @@ NoRoom s o = (s ≡ status.NoMemory) × (o.out_new ≡ o.out_old)
 
 -- the clause of the top call
 abbrev pub Told : List (List ℕ) → Table → Shelves → Status → Outputs → Type 0
-Told words table shelf s o = NoRoom s o ⊎ Asked table (built_of (meaning_of words)) shelf s o
+Told words table shelf s o = NoRoom s o ⊎ Asked table (task_of (built_of (meaning_of words))) shelf s o
 
 -- no count rose in the call
 pub record IsQuiet (file : List ℕ) (shelf : Shelves) (o : Outputs) : Type 0 where
@@ -145,8 +178,8 @@ pub record IsQuiet (file : List ℕ) (shelf : Shelves) (o : Outputs) : Type 0 wh
 -- where the shelf tells what it holds and no count rises, the one answer is given, or there was not memory enough
 abbrev pub IsComplete : List (List ℕ) → Table → Shelves → Status → Outputs → Type 0
 IsComplete words table shelf s o =
-    (n : ℕ) (file : List ℕ) → built_of (meaning_of words) ≡ Some (meaning.Run n (file ∷ [])) → IsTrue shelf.tells → IsQuiet file shelf o
-    → (s ≡ status.NoMemory) ⊎ ((whole : List ℕ) × (shelf.held file ≡ Some whole) × Gives (answer_of table n file (take 1048577 whole)) s o)
+    (m : Mode) (file : List ℕ) → task_of (built_of (meaning_of words)) ≡ Some (task m file) → IsTrue shelf.tells → IsQuiet file shelf o
+    → (s ≡ status.NoMemory) ⊎ ((whole : List ℕ) × (shelf.held file ≡ Some whole) × Gives (answer_of table m file (take 1048577 whole)) s o)
 
 -- the ids of a refusal are of the table
 abbrev pub StatusNamed : Table → Status → Type 0

@@ -89,10 +89,12 @@ meaning_of_split (Some s) = elim s.positionals [ [] ↦ None | ◌∷◌ mode fi
 unfoldable pub meaning_of : List (List ℕ) → Option Words
 meaning_of words = if list_all is_utf8 words then meaning_of_split (split_of false words) else None
 
--- of the meanings, those that are built: a run of one file
+-- of the meanings, those that are built: the check and the run of one file
 abbrev pub built_of : Option Words → Option Words
 built_of None = None
-built_of (Some (meaning.Check files)) = None
+built_of (Some (meaning.Check [])) = None
+built_of (Some (meaning.Check (file ∷ []))) = Some (meaning.Check (file ∷ []))
+built_of (Some (meaning.Check (file ∷ more ∷ rest))) = None
 built_of (Some (meaning.Core files)) = None
 built_of (Some (meaning.Sample n)) = None
 built_of (Some (meaning.Run n [])) = None

@@ -6,7 +6,6 @@ ghost use Rattle.gh_driver.specs.Scoping.{ScopeIsExact};
 /// For every program of the first form, what n steps of the meaning of `main` print is a prefix of what 1,000 * (n + 1)
 /// reductions of its core print, an end within n steps is reached within these reductions, and for each number of
 /// reductions some number of steps prints at least as much and has ended where the core has.
-#[tactic(auto, using(crate::proofs::Keeping::core_keeps_meaning))]
 pub fn core_keeps_meaning()
     ensures { CoreKeepsMeaning }
 {}
@@ -19,7 +18,6 @@ pub fn scope_is_exact()
 
 /// Where `main` leads to a name that leads back to itself, the core goes on after any number of reductions, and nothing
 /// is printed.
-#[tactic(auto, using(crate::proofs::Cycles::cycles_run_for_ever))]
 pub fn cycles_run_for_ever()
     ensures { CyclesRunForEver }
 {}

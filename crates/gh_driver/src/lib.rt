@@ -2,23 +2,21 @@
 #![tactic(auto)]
 
 mod check;
-mod grammar;
 mod laws;
 mod lines;
 mod link;
-mod program;
+mod position;
 mod run;
 mod source;
 mod status;
-mod terms;
 mod top;
 mod words;
 
 pub use laws::{core_keeps_meaning, cycles_run_for_ever, scope_is_exact};
 pub use lines::refusal_line;
 pub use source::Source;
-pub use status::{Status, Stop, StopCause};
-pub use top::genhs;
+pub use status::Status;
+pub use top::{Mode, genhs};
 pub use words::{Words, WordsFault, read_words};
 
 #[cfg(test)]

@@ -2,11 +2,12 @@
 ghost use Rattle.std.specs.Prelude.{◌≡◌, ◌<◌, ◌≤◌, ◌++◌, ◌∷◌, [], length, take, IfOk, OnOk, Some, decimal};
 ghost use Rattle.gh_base.specs.Ids.{text_in};
 ghost use Rattle.gh_base.specs.Refusals.{span_of};
-ghost use Rattle.gh_driver.specs.Lines.{variant_of, limit_of, tycon_of, pair_of, field, names_of, pairs_of, fields_of, located, is_whole_file, place_of_refusal, refusal_line_of, source_of, IsId, AreIds, IsHead, ArePairs, IsNamed, IsIn, read_line_of};
+ghost use Rattle.gh_driver.specs.Lines.{variant_of, limit_of, tycon_of, pair_of, field, names_of, pairs_of, fields_of, located, is_whole_file, place_of_refusal, refusal_line_of, source_of, IsId, AreIds, IsHead, ArePairs, IsNamed, read_line_of, cause_of, stopped_line_of};
 
+use crate::position::{START, moved};
 use crate::source::Source;
 use gh_base::{Bytes, Limit, ListOf, NameId, Names, NoMemory, Origin, Refusal, Span, TyCon};
-use gh_first_form::{START, moved};
+use gh_machine::{Stop, StopCause};
 use itoa::Buffer;
 use std::alloc::Global;
 
@@ -211,20 +212,31 @@ fn front(bytes: &[u8], to: usize) -> &[u8]
     &bytes[..to]
 }
 
-fn source<'a>(files: &'a [Source], span: Span) -> &'a Source
-    requires { (1 ≤ span.file) × (span.file ≤ length files.now) }
-    ensures { result.now ≡ source_of files.now span }
+// The name of a span's file. A file that is not there has no name.
+fn name_of<'a>(files: &'a [Source], span: Span) -> &'a [u8]
+    ensures { result.now ≡ (source_of files.now span).name }
 {
-    &files[span.file as usize - 1]
+    match files.get((span.file as usize).saturating_sub(1)) {
+        Some(source) => source.name.as_slice(),
+        None => &[],
+    }
+}
+
+// The bytes of a span's file. A file that is not there has none.
+fn bytes_of<'a>(files: &'a [Source], span: Span) -> &'a [u8]
+    ensures { result.now ≡ (source_of files.now span).bytes }
+{
+    match files.get((span.file as usize).saturating_sub(1)) {
+        Some(source) => source.bytes.as_slice(),
+        None => &[],
+    }
 }
 
 fn add_located(out: &mut Bytes, files: &[Source], span: Span) -> Result<(), NoMemory>
-    requires { IsIn files.now (Some span) }
     ensures { OnOk result (out.new ≡ out.old ++ located files.now span) }
 {
-    let source = source(files, span);
-    let position = moved(START, front(source.bytes.as_slice(), span.from as usize));
-    add(out, source.name.as_slice())?;
+    let position = moved(START, front(bytes_of(files, span), span.from as usize));
+    add(out, name_of(files, span))?;
     add(out, b":")?;
     add_number(out, position.line)?;
     add(out, b":")?;
@@ -233,14 +245,13 @@ fn add_located(out: &mut Bytes, files: &[Source], span: Span) -> Result<(), NoMe
 }
 
 fn add_place(out: &mut Bytes, files: &[Source], refusal: &Refusal) -> Result<(), NoMemory>
-    requires { IsIn files.now (span_of refusal.now) }
     ensures { OnOk result (out.new ≡ out.old ++ place_of_refusal files.now (span_of refusal.now) (is_whole_file refusal.now)) }
 {
     let Some(span) = refusal.span() else {
         return add(out, b"genhs: ");
     };
     if refusal.number() == 36 {
-        add(out, source(files, span).name.as_slice())?;
+        add(out, name_of(files, span))?;
         return add(out, b": ");
     }
     add_located(out, files, span)
@@ -248,7 +259,7 @@ fn add_place(out: &mut Bytes, files: &[Source], refusal: &Refusal) -> Result<(),
 
 /// The line that says why a program is refused, with its line end: the file, line and column, the number and the name of
 /// the refusal, and its further fields. Lines and columns count from 1. The names are those of the table, and the
-/// refusal's file is one of these, which count from 1.
+/// files count from 1.
 #[tactic(auto, unfolding(crate::specs::Lines::refusal_line_of))]
 pub fn refusal_line(
     alloc: Global,
@@ -257,7 +268,6 @@ pub fn refusal_line(
     refusal: &Refusal,
 ) -> Result<Bytes, NoMemory>
     requires named { IsNamed names.now refusal.now }
-    requires placed { IsIn files.now (span_of refusal.now) }
     ensures { IfOk result (λ line. line ≡ refusal_line_of names.now files.now refusal.now) }
 {
     let mut out = ListOf::new(alloc);
@@ -278,6 +288,31 @@ pub fn read_line(alloc: Global, file: &[u8]) -> Result<Bytes, NoMemory>
     let mut out = ListOf::new(alloc);
     add(&mut out, b"genhs: cannot read ")?;
     add(&mut out, file)?;
+    add(&mut out, b"\n")?;
+    Ok(out)
+}
+
+#[tactic(auto, unfolding(crate::specs::Lines::cause_of))]
+fn cause(cause: StopCause) -> &'static [u8]
+    ensures { result.now ≡ cause_of cause }
+{
+    match cause {
+        StopCause::ErrorCalled => b"ErrorCalled",
+        StopCause::NoMatch => b"NoMatch",
+        StopCause::DivideByZero => b"DivideByZero",
+        StopCause::NoCharacter => b"NoCharacter",
+    }
+}
+
+/// The line that says why and where a run has failed.
+#[tactic(auto, unfolding(crate::specs::Lines::stopped_line_of))]
+pub fn stopped_line(alloc: Global, files: &ListOf<Source>, stop: Stop) -> Result<Bytes, NoMemory>
+    ensures { IfOk result (λ line. line ≡ stopped_line_of files.now stop) }
+{
+    let mut out = ListOf::new(alloc);
+    add_located(&mut out, files.as_slice(), stop.span)?;
+    add(&mut out, b"stopped ")?;
+    add(&mut out, cause(stop.cause))?;
     add(&mut out, b"\n")?;
     Ok(out)
 }

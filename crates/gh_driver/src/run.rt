@@ -1,13 +1,21 @@
 // A run of `main` within a budget.
-ghost use Rattle.std.specs.Prelude.{◌≡◌, ◌≤◌, ◌<◌, ◌+◌, ◌-◌, ◌++◌, [], length, take, drop, min, false, OnOk, OnErr, IfOk, IfSome, IfNone, IsErrOf};
-ghost use Rattle.std.specs.Char.{encode_utf8};
-ghost use Rattle.std.specs.Str.{encode_utf8_all};
-ghost use Rattle.gh_driver.specs.Core.{core_run, has_ended, is_over, printed_by, reduced};
+ghost use Rattle.std.specs.Prelude.{◌≡◌, ◌≤◌, [], OnOk, OnErr, IfOk, IsErrOf};
+ghost use Rattle.gh_core.specs.Reduce.{reductions, running};
+ghost use Rattle.gh_bindings.specs.Core.{core_program};
+ghost use Rattle.gh_core.specs.Erase.{erased_program};
+ghost use Rattle.gh_core.specs.Reading.{term_of};
+ghost use Rattle.gh_core.specs.Run.{core_main, program_of, start};
+ghost use Rattle.gh_machine.specs.Prefix.{with_out};
+ghost use Rattle.gh_machine.specs.Values.{status_of};
+ghost use Rattle.gh_driver.specs.Core.{core_seen};
 ghost use Rattle.gh_driver.specs.declared.run.RunFault.TheVariants as fault;
 ghost use Rattle.gh_outside.specs.Outside.{Rose, Appends, AppendsFront};
 
-use crate::terms::{Program, Term};
-use gh_base::{Bytes, ListOf, NoMemory};
+use gh_base::NoMemory;
+use gh_bindings::core_of;
+use gh_core::{Erased, erase_core};
+use gh_first_form::Bindings;
+use gh_machine::{Machine, Turn};
 use gh_outside::{Out, OutFault};
 use std::alloc::Global;
 
@@ -31,142 +39,102 @@ impl From<NoMemory> for RunFault {
     }
 }
 
-// As many characters are put at once.
-const PIECE: usize = 1000;
+// As many reductions are made at once.
+const PIECE: u32 = 1000;
 
-fn add_char(out: &mut Bytes, c: char) -> Result<(), NoMemory>
-    ensures { OnOk result (out.new ≡ out.old ++ encode_utf8 c) }
-{
-    let mut buffer = [0u8; 4];
-    let text = c.encode_utf8(&mut buffer);
-    out.extend_from_slice(text.as_bytes())
-}
-
-#[tactic(auto, using(crate::proofs::Runs::one_more))]
-fn encoded(alloc: Global, chars: &[char]) -> Result<Bytes, NoMemory>
-    ensures { IfOk result (λ bytes. bytes ≡ encode_utf8_all chars.now) }
-{
-    let mut out = ListOf::new(alloc);
-    for c in chars {
-        add_char(&mut out, *c)?;
-    }
-    Ok(out)
-}
-
-fn part(chars: &[char], from: usize, count: usize) -> &[char]
-    requires { from + count ≤ length chars.now }
-    ensures { result.now ≡ take count (drop from chars.now) }
-{
-    &chars[from..from + count]
-}
-
-// A string that the run has reached, and the reductions that are left.
-#[derive(Clone, Copy)]
-struct Reached<'a> {
-    text: &'a [char],
-    budget: u32,
-}
-
-// Unfolds globals from `main` on, one reduction for each. There is no answer where the budget ends first.
-#[tactic(auto, using(crate::proofs::Runs::started, crate::proofs::Runs::last_going, crate::proofs::Runs::last_quiet, crate::proofs::Runs::stuck_going, crate::proofs::Runs::stuck_quiet))]
-fn unfold<'a>(program: &'a Program, steps: u32) -> Option<Reached<'a>>
-    ensures some { IfSome result (λ r. core_run program.now steps ≡ reduced r.budget program.now (Term.Text r.text.now) []) }
-    ensures going { IfNone result (has_ended program.now steps ≡ false) }
-    ensures quiet { IfNone result (printed_by program.now steps ≡ []) }
-{
-    let definitions = program.definitions.as_slice();
-    let mut at = program.main;
-    let mut budget = steps;
-    while budget > 0 {
-        budget -= 1;
-        match definitions.get(at) {
-            Some(Term::Text(chars)) => {
-                return Some(Reached {
-                    text: chars.as_slice(),
-                    budget,
-                });
-            }
-            Some(Term::Global(next)) => at = *next,
-            None => return None,
-        }
-    }
-    None
-}
-
-fn put_piece<O: Out>(alloc: Global, out: &mut O, chars: &[char]) -> Result<(), RunFault>
-    ensures ok { OnOk result (Appends (O.written out.old) (encode_utf8_all chars.now) (O.written out.new)) }
-    ensures err { OnErr result (AppendsFront (O.written out.old) (encode_utf8_all chars.now) (O.written out.new)) }
+// Makes so many reductions, or fewer where the run ends or fails, and puts what they printed.
+#[tactic(auto, using(crate::proofs::Appended::front_nothing))]
+fn run_some<O: Out>(machine: &mut Machine<'_>, out: &mut O, count: u32) -> Result<Turn, RunFault>
+    requires count { count ≤ 1000 }
+    ensures program { machine.new.program ≡ machine.old.program }
+    ensures after { OnOk result (machine.new.state ≡ with_out [] (reductions (program_of machine.old.program) count machine.old.state)) }
+    ensures turn { IfOk result (λ t. status_of t ≡ machine.new.state.status) }
+    ensures ok { OnOk result (Appends (O.written out.old) (reductions (program_of machine.old.program) count machine.old.state).out (O.written out.new)) }
+    ensures err { OnErr result (AppendsFront (O.written out.old) (reductions (program_of machine.old.program) count machine.old.state).out (O.written out.new)) }
     ensures failed { IsErrOf result RunFault.Failed → Rose (O.faults out.old) (O.faults out.new) }
     ensures later { O.faults out.old ≤ O.faults out.new }
 {
-    let Ok(bytes) = encoded(alloc, chars) else {
-        return Err(RunFault::NoMemory);
-    };
-    match out.put(bytes.as_slice()) {
-        Ok(()) => Ok(()),
+    machine.reserve(count)?;
+    let turn = machine.steps(count);
+    match out.put(machine.pending()) {
+        Ok(()) => {
+            machine.clear();
+            Ok(turn)
+        }
         Err(OutFault::Failed) => Err(RunFault::Failed),
     }
 }
 
-/// Puts characters in pieces.
-fn put_all<O: Out>(alloc: Global, out: &mut O, chars: &[char]) -> Result<(), RunFault>
-    ensures ok { OnOk result (Appends (O.written out.old) (encode_utf8_all chars.now) (O.written out.new)) }
-    ensures err { OnErr result (AppendsFront (O.written out.old) (encode_utf8_all chars.now) (O.written out.new)) }
+// Makes at most `steps` reductions of a machine that keeps nothing back, and puts what is printed before it goes on.
+fn run_steps<O: Out>(machine: &mut Machine<'_>, out: &mut O, steps: u32) -> Result<Turn, RunFault>
+    requires clear { machine.old.state.out ≡ [] }
+    requires running { machine.old.state.status ≡ running }
+    ensures stands { IfOk result (λ t. (reductions (program_of machine.old.program) steps machine.old.state).status ≡ status_of t) }
+    ensures ok { OnOk result (Appends (O.written out.old) (reductions (program_of machine.old.program) steps machine.old.state).out (O.written out.new)) }
+    ensures err { OnErr result (AppendsFront (O.written out.old) (reductions (program_of machine.old.program) steps machine.old.state).out (O.written out.new)) }
     ensures failed { IsErrOf result RunFault.Failed → Rose (O.faults out.old) (O.faults out.new) }
     ensures later { O.faults out.old ≤ O.faults out.new }
 {
-    let mut at: usize = 0;
-    while at < chars.len() {
-        let count = PIECE.min(chars.len() - at);
-        if let Err(fault) = put_piece(alloc, out, part(chars, at, count)) {
-            return Err(fault);
+    let mut left = steps;
+    while left > 0 {
+        let count = left.min(PIECE);
+        let turn = match run_some(machine, out, count) {
+            Ok(turn) => turn,
+            Err(fault) => return Err(fault),
+        };
+        left -= count;
+        match turn {
+            Turn::Running => {}
+            Turn::Ended => return Ok(turn),
+            Turn::Failed(_) => return Ok(turn),
         }
-        at += count;
     }
-    Ok(())
+    Ok(Turn::Running)
 }
 
-// Makes at most `budget` reductions of a string, puts what is printed, and says whether the run has ended.
-#[tactic(auto, using(crate::proofs::Runs::text_printed, crate::proofs::Runs::text_whole, crate::proofs::Runs::text_over, crate::proofs::Runs::text_going))]
-fn run_text<O: Out>(
-    alloc: Global,
-    out: &mut O,
-    program: &Program,
-    text: &[char],
-    budget: u32,
-) -> Result<bool, RunFault>
-    ensures ended { IfOk result (λ e. e ≡ is_over (reduced budget program.now (Term.Text text.now) []).term) }
-    ensures ok { OnOk result (Appends (O.written out.old) (reduced budget program.now (Term.Text text.now) []).printed (O.written out.new)) }
-    ensures err { OnErr result (AppendsFront (O.written out.old) (reduced budget program.now (Term.Text text.now) []).printed (O.written out.new)) }
+// The core of a program without its types, which is what runs.
+fn erased_core(alloc: Global, bindings: &Bindings) -> Result<Erased, NoMemory>
+    ensures { IfOk result (λ c. c ≡ erased_program (core_program bindings.now)) }
+{
+    let program = core_of(alloc, bindings.as_slice())?;
+    erase_core(alloc, &program)
+}
+
+// Makes at most `steps` reductions of the main of a core.
+#[tactic(auto, using(crate::proofs::Appended::front_nothing))]
+fn run_core<O: Out>(alloc: Global, out: &mut O, core: &Erased, steps: u32) -> Result<Turn, RunFault>
+    requires running { (start (term_of core.now.main)).status ≡ running }
+    requires silent { (start (term_of core.now.main)).out ≡ [] }
+    ensures stands { IfOk result (λ t. (core_main core.now steps).status ≡ status_of t) }
+    ensures ok { OnOk result (Appends (O.written out.old) (core_main core.now steps).out (O.written out.new)) }
+    ensures err { OnErr result (AppendsFront (O.written out.old) (core_main core.now steps).out (O.written out.new)) }
     ensures failed { IsErrOf result RunFault.Failed → Rose (O.faults out.old) (O.faults out.new) }
     ensures later { O.faults out.old ≤ O.faults out.new }
 {
-    let _ = program;
-    let budget = budget as usize;
-    if budget < text.len() {
-        put_all(alloc, out, part(text, 0, budget))?;
-        return Ok(false);
-    }
-    put_all(alloc, out, text)?;
-    Ok(true)
+    let Ok(machine) = Machine::new(alloc, core) else {
+        return Err(RunFault::NoMemory);
+    };
+    let mut machine = machine;
+    run_steps(&mut machine, out, steps)
 }
 
-/// Makes at most `steps` reductions of a program, puts what is printed, and says whether the run has ended.
-#[tactic(auto, unfolding(crate::specs::Core::has_ended, crate::specs::Core::printed_by), using(crate::proofs::Runs::appends_none))]
+/// Makes at most `steps` reductions of a program, puts what is printed before it goes on, and says how the run stands
+/// then.
+#[tactic(auto, unfolding(crate::specs::Core::core_seen), using(crate::proofs::Appended::front_nothing, crate::proofs::Starts::starts_running, crate::proofs::Starts::starts_silent))]
 pub fn run_main<O: Out>(
     alloc: Global,
     out: &mut O,
-    program: &Program,
+    bindings: &Bindings,
     steps: u32,
-) -> Result<bool, RunFault>
-    ensures ended { IfOk result (λ e. e ≡ has_ended program.now steps) }
-    ensures ok { OnOk result (Appends (O.written out.old) (printed_by program.now steps) (O.written out.new)) }
-    ensures err { OnErr result (AppendsFront (O.written out.old) (printed_by program.now steps) (O.written out.new)) }
+) -> Result<Turn, RunFault>
+    ensures stands { IfOk result (λ t. (core_seen bindings.now steps).status ≡ status_of t) }
+    ensures ok { OnOk result (Appends (O.written out.old) (core_seen bindings.now steps).out (O.written out.new)) }
+    ensures err { OnErr result (AppendsFront (O.written out.old) (core_seen bindings.now steps).out (O.written out.new)) }
     ensures failed { IsErrOf result RunFault.Failed → Rose (O.faults out.old) (O.faults out.new) }
     ensures later { O.faults out.old ≤ O.faults out.new }
 {
-    match unfold(program, steps) {
-        Some(reached) => run_text(alloc, out, program, reached.text, reached.budget),
-        None => Ok(false),
-    }
+    let Ok(core) = erased_core(alloc, bindings) else {
+        return Err(RunFault::NoMemory);
+    };
+    run_core(alloc, out, &core, steps)
 }

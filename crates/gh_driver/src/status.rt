@@ -2,27 +2,8 @@
 ghost use Rattle.std.specs.Prelude.{◌≡◌};
 ghost use Rattle.gh_driver.specs.Codes.{code_of};
 
-use gh_base::{Refusal, Span};
-
-/// Why the run of a program fails.
-#[derive(Clone, Copy, Debug, PartialEq, Eq)]
-pub enum StopCause {
-    /// `error` was called.
-    ErrorCalled,
-    /// No pattern fits (Haskell 98 Report, 3.17.2).
-    NoMatch,
-    /// A division by zero.
-    DivideByZero,
-    /// A number that is no Unicode scalar value was to become a character.
-    NoCharacter,
-}
-
-/// The failure of a run, and the place in the program where it comes from.
-#[derive(Clone, Copy, Debug, PartialEq, Eq)]
-pub struct Stop {
-    pub cause: StopCause,
-    pub span: Span,
-}
+use gh_base::Refusal;
+use gh_machine::Stop;
 
 /// How a call of `genhs` ends.
 #[derive(Debug, Drop)]

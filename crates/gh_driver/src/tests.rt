@@ -77,11 +77,13 @@ fn run_file(alloc: Global, text: &[u8]) -> Result<Outcome, Fail> {
     )
 }
 
-// The first program with spaces behind it, up to so many bytes.
+const COMMENTED: &[u8] = b"main = \"\"\n--";
+
+// A program that ends in a comment of so many bytes in all.
 fn padded(alloc: Global, length: usize) -> Result<Bytes, Fail> {
-    let mut bytes = ListOf::from_slice(alloc, HELLO)?;
-    for _ in HELLO.len()..length {
-        bytes.push(b' ')?;
+    let mut bytes = ListOf::from_slice(alloc, COMMENTED)?;
+    for _ in COMMENTED.len()..length {
+        bytes.push(b'x')?;
     }
     Ok(bytes)
 }
@@ -119,75 +121,169 @@ fn each_budget_prints_its_prefix(rt: HostRuntime) -> Result<(), Fail> {
     Ok(())
 }
 
+// Files that are refused, with the line of their refusal.
+const REFUSED: [(&[u8], &[u8]); 26] = [
+    (b"module Main where { }", b"genhs: 38 NoMain\n"),
+    (b"module Main where { ; ; }", b"genhs: 38 NoMain\n"),
+    (b"", b"genhs: 38 NoMain\n"),
+    (b"module Main where", b"genhs: 38 NoMain\n"),
+    (b"module Main", b"a.hs:1:1: 9 NoParse\n"),
+    (
+        b"module Other where { main = \"a\" }",
+        b"a.hs:1:1: 9 NoParse\n",
+    ),
+    (b"module Main where { x }", b"a.hs:1:21: 9 NoParse\n"),
+    (
+        b"module Main where {\n  ;\n  main = \"a\";\n\tmain = \"b\" }",
+        b"a.hs:4:9: 9 NoParse\n",
+    ),
+    (
+        b"module Main where { main = \"a\" } x",
+        b"a.hs:1:21: 9 NoParse\n",
+    ),
+    (
+        b"module Main where { main = \"a\"",
+        b"a.hs:1:19: 8 Unclosed\n",
+    ),
+    (
+        b"module Main where { main = \"a\" } ; }",
+        b"a.hs:1:36: 7 BadLayout\n",
+    ),
+    (b"module Main where {", b"a.hs:1:19: 8 Unclosed\n"),
+    (
+        b"module Main where { main = \"a }",
+        b"a.hs:1:28: 4 OpenText\n",
+    ),
+    (
+        b"module Main where {\r\n main = ? }",
+        b"a.hs:2:2: 9 NoParse\n",
+    ),
+    (b"main = \"a\"\n  {- x", b"a.hs:2:3: 3 OpenComment\n"),
+    (b"main = \xff", b"a.hs:1:8: 1 NotUtf8\n"),
+    (b"main = \x01", b"a.hs:1:8: 2 NoToken\n"),
+    (
+        b"main = 9223372036854775808",
+        b"a.hs:1:8: 5 NumberOutOfRange\n",
+    ),
+    (b"main = (\n", b"a.hs:1:8: 8 Unclosed\n"),
+    (b"main = = \"\"\n", b"a.hs:1:1: 9 NoParse\n"),
+    (b"main = \"a\" ++\nx = \"b\"", b"a.hs:1:1: 9 NoParse\n"),
+    (
+        b"main = \"\"\na = \"\"\nb = a a\nc = d",
+        b"a.hs:3:1: 9 NoParse\n",
+    ),
+    (
+        b"module Main where { main = x }",
+        b"a.hs:1:28: 16 UnknownName x\n",
+    ),
+    (
+        b"module Main where { a = \"\" ++ y; main = x' }",
+        b"a.hs:1:31: 16 UnknownName y\n",
+    ),
+    (b"a = \"\"\nb = a\nc = mai", b"genhs: 38 NoMain\n"),
+    (b"a = x\na = \"s\"", b"a.hs:2:1: 9 NoParse\n"),
+];
+
 #[test]
 fn refusals_have_their_lines(rt: HostRuntime) -> Result<(), Fail> {
-    let files: [(&[u8], &[u8]); 20] = [
-        (b"module Main where { }", b"genhs: 38 NoMain\n"),
-        (b"module Main where { ; ; }", b"genhs: 38 NoMain\n"),
-        (b"", b"a.hs:1:1: 9 NoParse\n"),
-        (b"module Main where", b"a.hs:1:1: 9 NoParse\n"),
-        (
-            b"module Other where { main = \"a\" }",
-            b"a.hs:1:1: 9 NoParse\n",
-        ),
-        (b"module Main where { x }", b"a.hs:1:21: 9 NoParse\n"),
-        (
-            b"module Main where {\n  ;\n  main = \"a\";\n\tmain = \"b\" }",
-            b"a.hs:4:9: 9 NoParse\n",
-        ),
-        (
-            b"module Main where { main = \"a\" } x",
-            b"a.hs:1:21: 9 NoParse\n",
-        ),
-        (
-            b"module Main where { main = \"a\"",
-            b"a.hs:1:21: 9 NoParse\n",
-        ),
-        (
-            b"module Main where { main = \"a\" } ; }",
-            b"a.hs:1:21: 9 NoParse\n",
-        ),
-        (b"module Main where { } }", b"a.hs:1:21: 9 NoParse\n"),
-        (b"module Main where {", b"a.hs:1:20: 9 NoParse\n"),
-        (
-            b"module Main where { main = \"a }",
-            b"a.hs:1:28: 2 NoToken\n",
-        ),
-        (
-            b"module Main where {\r\n main = ? }",
-            b"a.hs:2:9: 2 NoToken\n",
-        ),
-        (
-            b"module Main where { main = x }",
-            b"a.hs:1:28: 16 UnknownName x\n",
-        ),
-        (
-            b"module Main where { a = y; main = x' }",
-            b"a.hs:1:25: 16 UnknownName y\n",
-        ),
-        (
-            b"module Main where { main = main; a = \"\";\n\n b = Main }",
-            b"a.hs:3:2: 9 NoParse\n",
-        ),
-        (
-            b"module Main where { a = \"\"; b = a; c = mai }",
-            b"genhs: 38 NoMain\n",
-        ),
-        (
-            b"module Main where { a = x; a = \"s\" }",
-            b"a.hs:1:28: 9 NoParse\n",
-        ),
-        (
-            b"module Main where { main = x; x = main; y = \"\"; x = y; main = z }",
-            b"a.hs:1:49: 9 NoParse\n",
-        ),
-    ];
-    for (file, line) in files {
+    for (file, line) in REFUSED {
         let call = run_file(rt.alloc(), file)?;
         assert_eq!(rt; call.err.bytes(), line);
         assert_eq!(rt; call.code, 1);
         assert_eq!(rt; call.out.bytes(), b"".as_slice());
     }
+    Ok(())
+}
+
+#[test]
+fn a_check_refuses_what_a_run_refuses(rt: HostRuntime) -> Result<(), Fail> {
+    let words: [&[u8]; 2] = [b"check", b"a.hs"];
+    for (file, line) in REFUSED {
+        let bytes = ListOf::from_slice(rt.alloc(), file)?;
+        let call = call(rt.alloc(), &words, b"a.hs", bytes, &[])?;
+        assert_eq!(rt; call.err.bytes(), line);
+        assert_eq!(rt; call.code, 1);
+        assert_eq!(rt; call.out.bytes(), b"".as_slice());
+    }
+    Ok(())
+}
+
+#[test]
+fn a_check_writes_nothing(rt: HostRuntime) -> Result<(), Fail> {
+    let words: [&[u8]; 2] = [b"check", b"a.hs"];
+    let files: [&[u8]; 4] = [
+        HELLO,
+        b"main = \"hi\"",
+        b"main = main ++ main",
+        b"-- a comment\nmain = a {- and {- another -} -}\na = \"\\n\"\n",
+    ];
+    for file in files {
+        let bytes = ListOf::from_slice(rt.alloc(), file)?;
+        let call = call(rt.alloc(), &words, b"a.hs", bytes, &[0, 1])?;
+        assert_eq!(rt; call.code, 0);
+        assert_eq!(rt; call.out.bytes(), b"".as_slice());
+        assert_eq!(rt; call.err.bytes(), b"".as_slice());
+    }
+    Ok(())
+}
+
+#[test]
+fn escapes_are_printed_as_utf_8(rt: HostRuntime) -> Result<(), Fail> {
+    let call = run_file(rt.alloc(), b"main = \"\\233\\&1\"")?;
+    assert_eq!(rt; call.code, 0);
+    assert_eq!(rt; call.out.bytes(), b"\xc3\xa91".as_slice());
+    Ok(())
+}
+
+#[test]
+fn operands_are_joined(rt: HostRuntime) -> Result<(), Fail> {
+    let files: [(&[u8], &[u8]); 4] = [
+        (b"main = \"a\" ++ \"b\"", b"ab"),
+        (
+            b"main = \"a\" ++ b ++ \"c\" ++ b\nb = \"\" ++ d\nd = \"xy\"",
+            b"axycxy",
+        ),
+        (
+            b"module Main where\n  main = a ++ a\n  a = \"1\"\n    ++ \"2\"",
+            b"1212",
+        ),
+        (b"{ main = \"\" ++ \"\" }", b""),
+    ];
+    for (file, out) in files {
+        let call = run_file(rt.alloc(), file)?;
+        assert_eq!(rt; call.code, 0);
+        assert_eq!(rt; call.out.bytes(), out);
+        assert_eq!(rt; call.err.bytes(), b"".as_slice());
+    }
+    Ok(())
+}
+
+const ENDLESS: &[u8] = b"module Main where { main = \"ab\" ++ main }";
+
+// Whether bytes are `ababab` without end, cut somewhere.
+fn alternates(bytes: &[u8]) -> bool {
+    for (at, byte) in bytes.iter().enumerate() {
+        let wanted = if at % 2 == 0 { b'a' } else { b'b' };
+        if *byte != wanted {
+            return false;
+        }
+    }
+    true
+}
+
+#[test]
+fn a_program_may_print_for_ever(rt: HostRuntime) -> Result<(), Fail> {
+    let words: [&[u8]; 4] = [b"run", b"--steps", b"0", b"a.hs"];
+    let bytes = ListOf::from_slice(rt.alloc(), ENDLESS)?;
+    let none = call(rt.alloc(), &words, b"a.hs", bytes, &[])?;
+    assert_eq!(rt; none.code, 3);
+    assert_eq!(rt; none.out.bytes(), b"".as_slice());
+    assert_eq!(rt; none.err.bytes(), b"genhs: out of steps\n".as_slice());
+    let some = run_file(rt.alloc(), ENDLESS)?;
+    assert_eq!(rt; some.code, 3);
+    assert!(rt; some.out.bytes().len() >= 4);
+    assert!(rt; alternates(some.out.bytes()));
+    assert_eq!(rt; some.err.bytes(), b"genhs: out of steps\n".as_slice());
     Ok(())
 }
 
@@ -298,11 +394,11 @@ fn empty_bindings_are_allowed(rt: HostRuntime) -> Result<(), Fail> {
 
 #[test]
 fn a_file_may_have_a_megabyte(rt: HostRuntime) -> Result<(), Fail> {
-    let words: [&[u8]; 2] = [b"run", b"a.hs"];
+    let words: [&[u8]; 2] = [b"check", b"a.hs"];
     let most = padded(rt.alloc(), 1_048_576)?;
     let whole = call(rt.alloc(), &words, b"a.hs", most, &[])?;
     assert_eq!(rt; whole.code, 0);
-    assert_eq!(rt; whole.out.bytes(), b"hi".as_slice());
+    assert_eq!(rt; whole.err.bytes(), b"".as_slice());
     let more = padded(rt.alloc(), 1_048_577)?;
     let long = call(rt.alloc(), &words, b"a.hs", more, &[])?;
     assert_eq!(rt; long.code, 1);
@@ -366,20 +462,17 @@ fn a_file_that_is_not_there_cannot_be_read(rt: HostRuntime) -> Result<(), Fail> 
 
 #[test]
 fn a_failing_output_keeps_a_prefix(rt: HostRuntime) -> Result<(), Fail> {
-    let mut file = ListOf::from_slice(rt.alloc(), b"module Main where { main = \"")?;
-    for _ in 0..1500 {
-        file.push(b'x')?;
-    }
-    file.extend_from_slice(b"\" }")?;
     let words: [&[u8]; 2] = [b"run", b"a.hs"];
-    let copy = ListOf::from_slice(rt.alloc(), file.as_slice())?;
+    let file = ListOf::from_slice(rt.alloc(), ENDLESS)?;
     let first = call(rt.alloc(), &words, b"a.hs", file, &[0])?;
     assert_eq!(rt; first.code, 5);
     assert_eq!(rt; first.out.bytes().len(), 0);
     assert_eq!(rt; first.err.bytes(), b"genhs: cannot write\n".as_slice());
-    let second = call(rt.alloc(), &words, b"a.hs", copy, &[1])?;
+    let again = ListOf::from_slice(rt.alloc(), ENDLESS)?;
+    let second = call(rt.alloc(), &words, b"a.hs", again, &[1])?;
     assert_eq!(rt; second.code, 5);
-    assert_eq!(rt; second.out.bytes().len(), 1000);
+    assert!(rt; second.out.bytes().len() > 0);
+    assert!(rt; alternates(second.out.bytes()));
     assert_eq!(rt; second.err.bytes(), b"genhs: cannot write\n".as_slice());
     Ok(())
 }

@@ -1,19 +1,19 @@
 // The top call.
 ghost use Rattle.std.specs.Prelude.{◌≡◌, ◌++◌, ◌∷◌, [], ◌⊎◌, ℕ, List, Some, None, IfOk, OnOk, OnErr};
 ghost use Rattle.gh_outside.specs.Outside.{Rose, Appends, AppendsFront};
-ghost use Rattle.gh_driver.specs.Lines.{IsNamed, IsIn, steps_line, usage_line};
+ghost use Rattle.gh_driver.specs.Lines.{IsNamed, steps_line, usage_line, stopped_line_of};
 ghost use Rattle.gh_driver.specs.Check.{checked_of};
-ghost use Rattle.gh_base.specs.Refusals.{span_of};
-ghost use Rattle.gh_driver.specs.Top.{Outputs, Shelves, Answers, misused, unread, refused_by, ran, checked_answer, answer_of, Asked, Told, IsComplete, NoRoom, Runs, StatusNamed, IsUnrefused};
+ghost use Rattle.gh_driver.specs.Top.{Outputs, Shelves, Answers, misused, unread, refused_by, ran, accepted, done, file_of, answer_of, task_of, Asked, Told, IsComplete, NoRoom, Does, StatusNamed, IsUnrefused};
 
 use crate::check::{Checked, check};
-use crate::lines::{read_line, refusal_line};
+use crate::lines::{read_line, refusal_line, stopped_line};
 use crate::run::{RunFault, run_main};
 use crate::source::Source;
 use crate::status::Status;
-use crate::terms::Program;
 use crate::words::{Words, WordsFault, read_words};
 use gh_base::{Bytes, ListOf, Names, NoMemory, Refusal};
+use gh_first_form::Bindings;
+use gh_machine::Turn;
 use gh_outside::{Out, OutFault, Shelf, ShelfFault};
 use std::alloc::Global;
 
@@ -31,16 +31,35 @@ fn out_of_memory<E: Out>(err: &mut E) -> Status
     Status::NoMemory
 }
 
+/// What is done with a file.
+#[derive(Clone, Copy, Debug, PartialEq, Eq)]
+pub enum Mode {
+    /// It is checked.
+    Check,
+    /// Its `main` is run for at most so many reductions.
+    Run(u32),
+}
+
+// Says that the run goes on.
+#[tactic(auto, unfolding(crate::specs::Lines::steps_line))]
+fn out_of_steps<E: Out>(err: &mut E) -> Result<(), OutFault>
+    ensures ok { OnOk result (Appends (E.written err.old) steps_line (E.written err.new)) }
+    ensures failed { OnErr result (Rose (E.faults err.old) (E.faults err.new)) }
+{
+    err.put(b"genhs: out of steps\n")
+}
+
 // Runs a program, and says how the run has ended.
-#[tactic(auto, unfolding(crate::specs::Lines::steps_line), using(crate::proofs::Tops::ran_going, crate::proofs::Tops::ran_unsaid, crate::proofs::Tops::ran_unwritten, crate::proofs::Tops::ran_out_of_memory, crate::proofs::Tops::memory_unrefused))]
+#[tactic(auto, using(crate::proofs::Tops::memory_unrefused))]
 fn run_program<O: Out, E: Out>(
     alloc: Global,
-    program: &Program,
+    files: &ListOf<Source>,
+    bindings: &Bindings,
     steps: u32,
     out: &mut O,
     err: &mut E,
 ) -> Status
-    ensures told { Answers (ran program.now steps) result (record {
+    ensures told { Answers (ran files.now bindings.now steps) result (record {
       out_old = O.written out.old;
       out_new = O.written out.new;
       out_faults_old = O.faults out.old;
@@ -52,12 +71,21 @@ fn run_program<O: Out, E: Out>(
     }) }
     ensures accepted { IsUnrefused result }
 {
-    match run_main(alloc, out, program, steps) {
-        Ok(true) => Status::Ended,
-        Ok(false) => match err.put(b"genhs: out of steps\n") {
+    match run_main(alloc, out, bindings, steps) {
+        Ok(Turn::Ended) => Status::Ended,
+        Ok(Turn::Running) => match out_of_steps(err) {
             Ok(()) => Status::OutOfSteps,
             Err(OutFault::Failed) => Status::WriteFault,
         },
+        Ok(Turn::Failed(stop)) => {
+            let Ok(line) = stopped_line(alloc, files, stop) else {
+                return out_of_memory(err);
+            };
+            match err.put(line.as_slice()) {
+                Ok(()) => Status::MainFailed(stop),
+                Err(OutFault::Failed) => Status::WriteFault,
+            }
+        }
         Err(RunFault::NoMemory) => out_of_memory(err),
         Err(RunFault::Failed) => {
             try_line(err, b"genhs: cannot write\n");
@@ -77,7 +105,6 @@ fn refuse<O: Out, E: Out>(
     err: &mut E,
 ) -> Status
     requires named { IsNamed names.now refusal }
-    requires placed { IsIn files.now (span_of refusal) }
     ensures told { Answers (refused_by names.now files.now refusal) result (record {
       out_old = O.written out.old;
       out_new = O.written out.new;
@@ -109,12 +136,40 @@ fn one_source(alloc: Global, file: &[u8], bytes: Bytes) -> Result<ListOf<Source>
     Ok(files)
 }
 
-// Answers a run of a file that was read.
-#[tactic(auto, unfolding(crate::specs::Top::answer_of), using(crate::proofs::Plain::refusal_placed, crate::proofs::Tops::answer_refused, crate::proofs::Tops::answer_ran, crate::proofs::Tops::unrefused_named, crate::proofs::Tops::memory_named))]
-fn run_bytes<O: Out, E: Out>(
+// Does with a program what is asked for.
+#[tactic(auto, using(crate::proofs::Tops::nothing_added))]
+fn do_with<O: Out, E: Out>(
+    alloc: Global,
+    files: &ListOf<Source>,
+    bindings: &Bindings,
+    mode: Mode,
+    out: &mut O,
+    err: &mut E,
+) -> Status
+    ensures told { Answers (done files.now mode bindings.now) result (record {
+      out_old = O.written out.old;
+      out_new = O.written out.new;
+      out_faults_old = O.faults out.old;
+      out_faults_new = O.faults out.new;
+      err_old = E.written err.old;
+      err_new = E.written err.new;
+      err_faults_old = E.faults err.old;
+      err_faults_new = E.faults err.new;
+    }) }
+    ensures accepted { IsUnrefused result }
+{
+    match mode {
+        Mode::Check => Status::Accepted,
+        Mode::Run(steps) => run_program(alloc, files, bindings, steps, out, err),
+    }
+}
+
+// Answers for a file that was read.
+#[tactic(auto, unfolding(crate::specs::Top::answer_of), using(crate::proofs::Tops::answer_refused, crate::proofs::Tops::answer_done, crate::proofs::Tops::unrefused_named, crate::proofs::Tops::memory_named))]
+fn do_bytes<O: Out, E: Out>(
     alloc: Global,
     names: &mut Names,
-    steps: u32,
+    mode: Mode,
     file: &[u8],
     bytes: Bytes,
     out: &mut O,
@@ -129,7 +184,7 @@ fn run_bytes<O: Out, E: Out>(
       err_new = E.written err.new;
       err_faults_old = E.faults err.old;
       err_faults_new = E.faults err.new;
-    }) ⊎ Answers (answer_of names.new steps file.now bytes) result (record {
+    }) ⊎ Answers (answer_of names.new mode file.now bytes) result (record {
       out_old = O.written out.old;
       out_new = O.written out.new;
       out_faults_old = O.faults out.old;
@@ -141,15 +196,14 @@ fn run_bytes<O: Out, E: Out>(
     }) }
     ensures named { StatusNamed names.new result }
 {
-    match check(alloc, names, bytes.as_slice()) {
+    let checked = check(alloc, names, bytes.as_slice());
+    let Ok(files) = one_source(alloc, file, bytes) else {
+        return out_of_memory(err);
+    };
+    match checked {
         Err(_) => out_of_memory(err),
-        Ok(Checked::Program(program)) => run_program(alloc, &program, steps, out, err),
-        Ok(Checked::Refused(refusal)) => {
-            let Ok(files) = one_source(alloc, file, bytes) else {
-                return out_of_memory(err);
-            };
-            refuse(alloc, names, &files, refusal, out, err)
-        }
+        Ok(Checked::Program(bindings)) => do_with(alloc, &files, &bindings, mode, out, err),
+        Ok(Checked::Refused(refusal)) => refuse(alloc, names, &files, refusal, out, err),
     }
 }
 
@@ -178,12 +232,12 @@ fn cannot_read<O: Out, E: Out>(alloc: Global, file: &[u8], out: &mut O, err: &mu
     }
 }
 
-// Reads the file and runs it.
+// Reads the file and does with it what is asked for.
 #[tactic(auto, using(crate::proofs::Tops::unrefused_named, crate::proofs::Tops::memory_named))]
-fn run_file<S: Shelf, O: Out, E: Out>(
+fn do_file<S: Shelf, O: Out, E: Out>(
     alloc: Global,
     names: &mut Names,
-    steps: u32,
+    mode: Mode,
     file: &Bytes,
     shelf: &mut S,
     out: &mut O,
@@ -198,7 +252,7 @@ fn run_file<S: Shelf, O: Out, E: Out>(
       err_new = E.written err.new;
       err_faults_old = E.faults err.old;
       err_faults_new = E.faults err.new;
-    }) ⊎ Runs names.new steps file.now (record { tells = S.tells shelf.old; held = S.held shelf.old; faults_old = S.faults shelf.old; faults_new = S.faults shelf.new }) result (record {
+    }) ⊎ Does names.new mode file.now (record { tells = S.tells shelf.old; held = S.held shelf.old; faults_old = S.faults shelf.old; faults_new = S.faults shelf.new }) result (record {
       out_old = O.written out.old;
       out_new = O.written out.new;
       out_faults_old = O.faults out.old;
@@ -211,7 +265,7 @@ fn run_file<S: Shelf, O: Out, E: Out>(
     ensures named { StatusNamed names.new result }
 {
     match shelf.read_file(file, 1_048_577) {
-        Ok(bytes) => run_bytes(alloc, names, steps, file.as_slice(), bytes, out, err),
+        Ok(bytes) => do_bytes(alloc, names, mode, file.as_slice(), bytes, out, err),
         Err(ShelfFault::Failed) => cannot_read(alloc, file.as_slice(), out, err),
         Err(ShelfFault::NoMemory) => out_of_memory(err),
     }
@@ -246,11 +300,15 @@ fn answer<S: Shelf, O: Out, E: Out>(
             Err(OutFault::Failed) => Status::WriteFault,
         },
         Ok(Words::Run { steps, files }) => match files.as_slice() {
-            [file] => run_file(alloc, names, steps, file, shelf, out, err),
+            [file] => do_file(alloc, names, Mode::Run(steps), file, shelf, out, err),
             [] => unreachable!(),
             [_first, _second, ..] => unreachable!(),
         },
-        Ok(Words::Check(_)) => unreachable!(),
+        Ok(Words::Check(files)) => match files.as_slice() {
+            [file] => do_file(alloc, names, Mode::Check, file, shelf, out, err),
+            [] => unreachable!(),
+            [_first, _second, ..] => unreachable!(),
+        },
         Ok(Words::Core(_)) => unreachable!(),
         Ok(Words::Sample(_)) => unreachable!(),
     }

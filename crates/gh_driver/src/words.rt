@@ -2,7 +2,7 @@
 ghost use Rattle.std.specs.Prelude.{◌≡◌, ◌↔◌, ℕ, ◌+◌, ◌^◌, ◌<◌, ◌≤◌, nat_eq, length, Ok, Err, Some, None, IfOk, OnOk, IfErr, option_map, IsTrue, ◌++◌, ◌∷◌, [], false, drop, codes};
 ghost use Rattle.std.specs.List.{list_all, starts_with};
 ghost use Rattle.std.specs.Str.{bytes_eq, is_utf8};
-ghost use Rattle.gh_driver.specs.Words.{number_within, is_digit, is_option, split_of, value_from, budget_of, run_of, meaning_of, built_of, meaning_of_split};
+ghost use Rattle.gh_driver.specs.Words.{number_within, is_digit, is_option, split_of, value_from, budget_of, run_of, files_of, meaning_of, built_of, meaning_of_split};
 ghost use Rattle.gh_driver.specs.declared.words.WordsFault.TheVariants as fault;
 
 use gh_base::{Bytes, ListOf, NoMemory};
@@ -201,19 +201,42 @@ fn run_one(alloc: Global, steps: u32, file: &[u8]) -> Result<Words, NoMemory>
     Ok(Words::Run { steps, files })
 }
 
+// The run of a file with these values of `--steps`.
+fn run_mode(alloc: Global, steps: &[Bytes], file: &[u8]) -> Result<Option<Words>, NoMemory>
+    ensures { IfOk result (λ w. w ≡ built_of (run_of steps.now (file.now ∷ []))) }
+{
+    match budget(steps) {
+        Some(steps) => Ok(Some(run_one(alloc, steps, file)?)),
+        None => Ok(None),
+    }
+}
+
+// The check of a file, which takes no `--steps`.
+fn check_mode(alloc: Global, steps: &[Bytes], file: &[u8]) -> Result<Option<Words>, NoMemory>
+    ensures { IfOk result (λ w. w ≡ built_of (files_of (λ fs. Words.Check fs) steps.now (file.now ∷ []))) }
+{
+    if !steps.is_empty() {
+        return Ok(None);
+    }
+    let mut files = ListOf::new(alloc);
+    add(alloc, &mut files, file)?;
+    Ok(Some(Words::Check(files)))
+}
+
 // The meaning of the words behind the options, where it is built.
 fn mode(alloc: Global, split: &Arguments) -> Result<Option<Words>, NoMemory>
     ensures { IfOk result (λ w. w ≡ built_of (meaning_of_split (Some split.now))) }
 {
+    let steps = split.steps.as_slice();
     match split.positionals.as_slice() {
         [mode, file] => {
-            if !is_word(mode.as_slice(), b"run") {
-                return Ok(None);
+            if is_word(mode.as_slice(), b"run") {
+                return Ok(run_mode(alloc, steps, file.as_slice())?);
             }
-            match budget(split.steps.as_slice()) {
-                Some(steps) => Ok(Some(run_one(alloc, steps, file.as_slice())?)),
-                None => Ok(None),
+            if is_word(mode.as_slice(), b"check") {
+                return Ok(check_mode(alloc, steps, file.as_slice())?);
             }
+            Ok(None)
         }
         [] => Ok(None),
         [_mode] => Ok(None),
@@ -221,8 +244,8 @@ fn mode(alloc: Global, split: &Arguments) -> Result<Option<Words>, NoMemory>
     }
 }
 
-/// The meaning of the words behind the program's name, where it is a run of one file; every other meaning is not
-/// built yet, and is `Usage` like words that have none. An option may stand at any place before `--`.
+/// The meaning of the words behind the program's name, where it is the check or a run of one file; every other meaning
+/// is not built yet, and is `Usage` like words that have none. An option may stand at any place before `--`.
 #[tactic(auto, unfolding(crate::specs::Words::meaning_of))]
 pub fn read_words(alloc: Global, words: &[Bytes]) -> Result<Words, WordsFault>
     ensures ok { IfOk result (λ w. built_of (meaning_of words.now) ≡ Some w) }

@@ -1,5 +1,7 @@
-pub mod Bad
-pub mod Lexeme
-pub mod Position
-pub mod Reading
-pub mod Seen
+pub mod Grammar
+pub mod Laws
+pub mod Listed
+pub mod Named
+pub mod Parse
+pub mod Sorts
+pub mod Spans

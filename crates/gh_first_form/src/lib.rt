@@ -1,9 +1,12 @@
-//! From bytes to the tokens of the first form of programs. It stands in until programs are read from laid tokens.
+//! The first form of programs, read from laid tokens: bindings of names to operands that `++` joins.
 #![tactic(auto)]
 
-mod position;
-mod reader;
-mod scan;
+mod bindings;
+mod form;
+mod laws;
+mod program;
+mod sort;
 
-pub use position::{Position, START, moved};
-pub use reader::lex;
+pub use bindings::Bindings;
+pub use laws::{grammar_is_exact, module_is_unique, names_are_placed};
+pub use program::{Parsed, parse};
