@@ -1,8 +1,8 @@
 //! The reader of types.
 #![tactic(auto)]
 
-mod types;
 #[cfg(test)]
 mod tests;
+mod types;
 
 pub use types::{parse_type, type_expr};
