@@ -56,8 +56,8 @@ no_body : parse_of hello (Real 0 ∷ Real 1 ∷ Real 2 ∷ []) ≡ parsed.Bad (a
 unfolding parse_of body_of last_item form_of cover
 no_body = refl
 
--- `module where {`: item 0 goes up to the brace
-bad_header : parse_of hello (Real 0 ∷ Real 2 ∷ Real 3 ∷ Real 4 ∷ Real 7 ∷ []) ≡ parsed.Bad (at 0 19)
+-- `module where {`: item 0 ends before the brace
+bad_header : parse_of hello (Real 0 ∷ Real 2 ∷ Real 3 ∷ Real 4 ∷ Real 7 ∷ []) ≡ parsed.Bad (at 0 17)
 unfolding parse_of body_of last_item form_of cover
 bad_header = refl
 

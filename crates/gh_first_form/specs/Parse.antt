@@ -165,10 +165,10 @@ judged_all ts bs items = judged ts bs items.ended items.last items.back
 unfoldable pub body_of : List Token → List LaidToken → Parsed
 body_of ts xs = judged_all ts [] (items_from ts 0 [] xs)
 
--- item 0 goes up to the first `{`
+-- item 0 goes up to the first `{`, and not with it
 abbrev pub header_of : List Token → List LaidToken → List LaidToken
 header_of ts [] = []
-header_of ts (x ∷ xs) = if has_sort ts x sort.Open then x ∷ [] else x ∷ header_of ts xs
+header_of ts (x ∷ xs) = if has_sort ts x sort.Open then [] else x ∷ header_of ts xs
 
 abbrev pub bad_header : List Token → List LaidToken → Parsed
 bad_header ts xs = bad_item ts (header_of ts xs)

@@ -158,13 +158,13 @@ fn body_of(alloc: Global, tokens: &[Token], laid: &[LaidToken]) -> Result<Parsed
     Ok(last_item(alloc, tokens, bound, from_place(laid, begin), back)?)
 }
 
-// The tokens up to the first `{`, or all.
+// The tokens before the first `{`, or all.
 fn header_of<'a>(tokens: &[Token], laid: &'a [LaidToken]) -> &'a [LaidToken]
     ensures { result.now ≡ header_of tokens.now laid.now }
 {
     for (at, x) in laid.iter().enumerate() {
         if has_sort(tokens, *x, Sort::Open) {
-            return up_to(laid, at + 1);
+            return up_to(laid, at);
         }
     }
     laid
