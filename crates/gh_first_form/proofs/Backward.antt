@@ -105,7 +105,7 @@ items_back ts items known new c (last_item_is xs bs i) e d =
 items_back ts items known new c (more_items xs s ys bs cs i f j) e d =
     ap (λ l. judged_all ts known (items_from ts 0 [] l)) (append_assoc xs (s ∷ ys) (c ∷ []))
     ∙ ap (judged_all ts known)
-        (flat ts [] xs (s ∷ (ys ++ c ∷ [])) (item_inner ts xs bs i) ∙ ap (λ t. on_step t s xs (ys ++ c ∷ []) (λ m more. items_from ts m more (ys ++ c ∷ []))) (ap (step_of 0) f))
+    (flat ts [] xs (s ∷ (ys ++ c ∷ [])) (item_inner ts xs bs i) ∙ ap (λ t. on_step t s xs (ys ++ c ∷ []) (λ m more. items_from ts m more (ys ++ c ∷ []))) (ap (step_of 0) f))
     ∙ ap (λ m. going_on m (bad_item ts xs) (λ more. judged_all ts more (items_from ts 0 [] (ys ++ c ∷ [])))) (bound_back ts xs known bs cs i d)
     ∙ items_back ts ys (known ++ bs) cs c j e (subst AreDifferent (sym (append_assoc known bs cs)) d)
     ∙ ap parsed.Program (append_assoc known bs cs)

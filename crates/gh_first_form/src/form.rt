@@ -105,11 +105,7 @@ fn name_of(tokens: &[Token], laid: LaidToken) -> Option<NameId>
     }
 }
 
-fn operand_of_kind(
-    alloc: Global,
-    kind: &TokenKind,
-    span: Span,
-) -> Result<Option<Operand>, NoMemory>
+fn operand_of_kind(alloc: Global, kind: &TokenKind, span: Span) -> Result<Option<Operand>, NoMemory>
     ensures { IfOk result (λ o. o ≡ operand_of_kind kind.now span) }
 {
     match kind {
@@ -129,11 +125,7 @@ fn operand_of_kind(
     }
 }
 
-fn operand_of(
-    alloc: Global,
-    tokens: &[Token],
-    laid: LaidToken,
-) -> Result<Option<Operand>, NoMemory>
+fn operand_of(alloc: Global, tokens: &[Token], laid: LaidToken) -> Result<Option<Operand>, NoMemory>
     ensures { IfOk result (λ o. o ≡ operand_of tokens.now laid) }
 {
     match laid {
