@@ -36,7 +36,7 @@ fn is_pattern(alloc: Global, opening: u32, closing: u32) -> Result<bool, Fail> {
 
 #[test]
 fn nested_parentheses_are_read(rt: HostRuntime) -> Result<(), Fail> {
-    assert!(rt; is_pattern(rt.alloc(), 2001, 2001)?);
+    assert!(rt; is_pattern(rt.alloc(), 1000, 1000)?);
     Ok(())
 }
 
