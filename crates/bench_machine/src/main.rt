@@ -1,7 +1,9 @@
-//! Prints how long the machine takes for a loop, a list without end and deep unevaluated terms. Without a word it prints nothing.
+//! Prints how long the machine takes for a counting loop, walks through a list of 100,000 cells, a list that is printed without end,
+//! and deep unevaluated terms. The word `go` means all of them at doubling numbers of reductions, and the name of one of them means
+//! that one alone. Without a word it prints nothing.
 #![tactic(auto)]
 
-use gh_base::fixed::{CONS, EQUAL, FALSE, MAIN, MAIN_MODULE, MINUS, NIL, PLUS, PRELUDE, TRUE};
+use gh_base::fixed::{CONS, EQUAL, FALSE, MAIN, MAIN_MODULE, MINUS, NIL, PRELUDE, TRUE};
 use gh_base::{ListOf, NameId, NoMemory, Origin, Space, Span};
 use gh_core::{CoreName, Erased, ErasedAlt, ErasedTerm};
 use gh_machine::{Machine, Turn};
@@ -19,10 +21,12 @@ const PLACE: Span = Span {
 
 #[derive(Clone, Copy)]
 enum Shape {
-    /// `loop = \x -> case 1 + 2 of 3 -> loop x`.
+    /// `loop = \n -> case n of { 0 -> loop 1; 1 -> loop 2; 2 -> loop 0 }`.
     Loop,
-    /// `loop = letrec xs = 'a' : xs in xs`.
+    /// `loop = \xs -> case xs of { _ : rest -> loop rest; [] -> loop "aa.." }`, with 100,000 characters.
     List,
+    /// `loop = letrec xs = 'a' : xs in xs`.
+    Print,
     /// `loop = \n -> case n == 0 of { True -> []; False -> loop (n - 1) }`, where each `n` is the next one's, less 1.
     Deep,
 }
@@ -32,7 +36,8 @@ impl Shape {
         match self {
             Shape::Loop => "loop",
             Shape::List => "list",
-            Shape::Deep => "deep terms",
+            Shape::Print => "print",
+            Shape::Deep => "deep",
         }
     }
 }
@@ -82,12 +87,32 @@ fn case(
 
 fn looping(alloc: Global) -> Result<ErasedTerm, NoMemory> {
     let mut alternatives = ListOf::new(alloc);
-    alternatives.push(ErasedAlt::Int(3, app(alloc, global(), ErasedTerm::Var(0))?))?;
-    let sum = binary(alloc, PLUS, ErasedTerm::Int(1), ErasedTerm::Int(2))?;
-    lam(alloc, case(alloc, sum, alternatives)?)
+    for (from, to) in [(0, 1), (1, 2), (2, 0)] {
+        alternatives.push(ErasedAlt::Int(from, app(alloc, global(), ErasedTerm::Int(to))?))?;
+    }
+    lam(alloc, case(alloc, ErasedTerm::Var(0), alternatives)?)
 }
 
-fn listing(alloc: Global) -> Result<ErasedTerm, NoMemory> {
+fn walking(alloc: Global) -> Result<ErasedTerm, NoMemory> {
+    let mut chars = ListOf::new(alloc);
+    for _ in 0..100_000 {
+        chars.push('a')?;
+    }
+    let mut alternatives = ListOf::new(alloc);
+    alternatives.push(ErasedAlt::Con(
+        value(PRELUDE, CONS),
+        ListOf::from_slice(alloc, &[1, 2])?,
+        app(alloc, global(), ErasedTerm::Var(2))?,
+    ))?;
+    alternatives.push(ErasedAlt::Con(
+        value(PRELUDE, NIL),
+        ListOf::new(alloc),
+        app(alloc, global(), ErasedTerm::Str(chars))?,
+    ))?;
+    lam(alloc, case(alloc, ErasedTerm::Var(0), alternatives)?)
+}
+
+fn printing(alloc: Global) -> Result<ErasedTerm, NoMemory> {
     let head = app(alloc, prelude(CONS), ErasedTerm::Char('a'))?;
     let mut bindings = ListOf::new(alloc);
     bindings.push((0, app(alloc, head, ErasedTerm::Var(0))?))?;
@@ -110,7 +135,8 @@ fn deep(alloc: Global) -> Result<ErasedTerm, NoMemory> {
 fn program(alloc: Global, shape: Shape) -> Result<Erased, NoMemory> {
     let (term, main) = match shape {
         Shape::Loop => (looping(alloc)?, app(alloc, global(), ErasedTerm::Int(0))?),
-        Shape::List => (listing(alloc)?, global()),
+        Shape::List => (walking(alloc)?, app(alloc, global(), prelude(NIL))?),
+        Shape::Print => (printing(alloc)?, global()),
         Shape::Deep => (
             deep(alloc)?,
             app(alloc, global(), ErasedTerm::Int(1_000_000_000))?,
@@ -160,18 +186,23 @@ fn measure<R: Clock + Print>(
     println!(rt; "{name}: {thousands}000 reductions, {bytes} bytes printed, {time} ms")
 }
 
-fn run<R: Clock + Print>(rt: &R, alloc: Global) -> io::Result<()> {
-    for shape in [Shape::Loop, Shape::List, Shape::Deep] {
-        for thousands in [250, 500, 1000, 2000] {
-            measure(rt, alloc, shape, thousands)?;
+fn run<R: Clock + Print>(rt: &R, alloc: Global, word: &str) -> io::Result<()> {
+    for shape in [Shape::Loop, Shape::List, Shape::Print, Shape::Deep] {
+        if word == "go" {
+            for thousands in [250, 500, 1000] {
+                measure(rt, alloc, shape, thousands)?;
+            }
+        }
+        if word == "go" || word == shape.name() {
+            measure(rt, alloc, shape, 2000)?;
         }
     }
     Ok(())
 }
 
 fn main(rt: HostRuntime) -> io::Result<()> {
-    if env::args(&rt)?.count() > 1 {
-        run(&rt, rt.alloc())?;
+    for word in env::args(&rt)?.skip(1) {
+        run(&rt, rt.alloc(), word.as_str())?;
     }
     Ok(())
 }

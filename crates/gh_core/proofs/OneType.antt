@@ -33,7 +33,7 @@ one_type p ks gs (a_char c) t u h k = h ∙ sym k
 one_type p ks gs (a_string cs) t u h k = h ∙ sym k
 one_type p ks gs (a_prim o place ty) t u h k = one_prim p ks (named primitives o) ty t u h k
 one_type p ks gs (a_lam x ty body) t u h k =
-    h.3 ∙ ap (arrow (placed ks ty)) (one_type p ks ((x, placed ks ty) ∷ gs) body h.0 k.0 h.2 k.2) ∙ sym k.3
+    h.3 ∙ ap (arrow (placed ks ty)) (one_type p ks ((x, Some (placed ks ty)) ∷ gs) body h.0 k.0 h.2 k.2) ∙ sym k.3
 one_type p ks gs (an_app f e) t u h k = ap argument (one_type p ks gs f (arrow h.0 t) (arrow k.0 u) h.1 k.1)
 one_type p ks gs (a_tylam x κ body) t u h k =
     h.2 ∙ ap (λ v. forall κ (closed_over (length ks) 0 v)) (one_type p ((x, κ) ∷ ks) gs body h.0 k.0 h.1 k.1) ∙ sym k.2

@@ -1,5 +1,6 @@
 pub mod Closing
 pub mod Erase
+pub mod Levels
 pub mod Primitives
 pub mod Read
 pub mod Reading
@@ -8,4 +9,5 @@ pub mod Run
 pub mod SameType
 pub mod Scopes
 pub mod Terms
+pub mod Text
 pub mod Typing

@@ -1,6 +1,6 @@
 -- The typing of core: the rules of the higher-order polymorphic lambda calculus (Girard's Fω, with the kinds of Haskell 98
 -- Report, 4.1.1), with recursive bindings, one-level cases and primitives.
-use Rattle.std.specs.Prelude.{◌≡◌, ℕ, suc, ◌+◌, ◌-◌, ℤ, Bool, true, false, cond, ◌==◌, ◌⊎◌, List, [], ◌∷◌, ◌++◌, map, reverse, length, Option, Some, None, slice_get, IsTrue}
+use Rattle.std.specs.Prelude.{◌≡◌, ℕ, suc, ◌+◌, ◌-◌, ℤ, Bool, true, false, cond, ◌==◌, ◌⊎◌, List, [], ◌∷◌, ◌++◌, map, reverse, length, Option, Some, None, slice_get, nat_lt, unwrap_or, IsTrue}
 use Rattle.gh_base.specs.declared.fixed.TheConstants.{LIST, BOOL, CON}
 use Rattle.gh_base.specs.declared.names.NameId.{NameId}
 use Rattle.gh_base.specs.declared.place.Origin.{Origin}
@@ -34,9 +34,10 @@ use Rattle.gh_core.specs.SameType.{Nameless, bound, free, con, applied, forall, 
 abbrev pub Kinds : Type 0
 Kinds = List (ℕ × Kind)
 
--- the variables round a term, each a number with its type, the nearest first
+-- the variables round a term, each a number with its type, the nearest first; one to which an alternative gives no type has
+-- none, and hides those of its number all the same
 abbrev pub Types_of : Type 0
-Types_of = List (ℕ × Nameless)
+Types_of = List (ℕ × Option Nameless)
 
 -- the level of a type variable; one that nothing binds has a level of its own, past them all
 abbrev pub level_in : Kinds → ℕ → ℕ → ℕ
@@ -152,10 +153,14 @@ HasKind decls ks bs (applied f x) k = (a : Kind) × HasKind decls ks bs f (kind.
 HasKind decls ks bs (forall l b) k = (k ≡ kind.Star) × HasKind decls ks (l ∷ bs) b kind.Star
 HasKind decls ks bs (any l) k = l ≡ k
 
--- the type of a field, the parameters being variables of `forall`: the last is the nearest
+-- the number of binders between a parameter and its own, the last being the nearest; what is no parameter is bound by none
+abbrev pub param_index : ℕ → ℕ → ℕ
+param_index count x = cond (nat_lt x count) (count - suc x) (count + x)
+
+-- the type of a field, the parameters being variables of `forall`
 abbrev pub field_step : ℕ → TyNode-F Nameless → Nameless
 field_step count (TyNode-F.Con c) = con (layered c)
-field_step count (TyNode-F.Var x) = bound (count - suc x)
+field_step count (TyNode-F.Var x) = bound (param_index count x)
 field_step count (TyNode-F.App f x) = applied f x
 field_step count (TyNode-F.Name n) = bound (count + n)
 
@@ -185,11 +190,7 @@ con_type_of (Some p) = Some (con_type p)
 
 -- a type with types for the variables of `forall` in it, the nearest first
 abbrev pub at_types : List Nameless → Nameless → Nameless
-at_types ts (bound i) = cond_type (slice_get ts i) (bound i)
-  where
-    cond_type : Option Nameless → Nameless → Nameless
-    cond_type None t = t
-    cond_type (Some u) t = u
+at_types ts (bound i) = unwrap_or (slice_get ts i) (bound i)
 at_types ts (free l) = free l
 at_types ts (con c) = con c
 at_types ts (applied f x) = applied (at_types ts f) (at_types ts x)
@@ -291,7 +292,7 @@ pub record Program : Type 0 where
 
 abbrev pub var_type : Types_of → ℕ → Option Nameless
 var_type [] x = None
-var_type (g ∷ gs) x = cond (g.0 == x) (Some g.1) (var_type gs x)
+var_type (g ∷ gs) x = cond (g.0 == x) g.1 (var_type gs x)
 
 -- the type of a primitive but `error`
 abbrev pub unary_type : Unary → Nameless
@@ -323,15 +324,15 @@ PrimHas p ks (Some (unary u)) (Some a) t = ⊥
 PrimHas p ks (Some (binary b)) None t = t ≡ binary_type b
 PrimHas p ks (Some (binary b)) (Some a) t = ⊥
 
--- names with types; where there are more of the one than of the other, the others are left out
+-- names with types; where there are more names than types, the last have none
 abbrev pub paired : List ℕ → List Nameless → Types_of
 paired [] ts = []
-paired (x ∷ xs) [] = []
-paired (x ∷ xs) (t ∷ ts) = (x, t) ∷ paired xs ts
+paired (x ∷ xs) [] = (x, None) ∷ paired xs []
+paired (x ∷ xs) (t ∷ ts) = (x, Some t) ∷ paired xs ts
 
 abbrev pub bound_types : Kinds → Bindings → Types_of
 bound_types ks no_binding = []
-bound_types ks (binding x ty t rest) = (x, placed ks ty) ∷ bound_types ks rest
+bound_types ks (binding x ty t rest) = (x, Some (placed ks ty)) ∷ bound_types ks rest
 
 -- the type is a datatype of the program applied to a type for each parameter
 pub record IsData (decls : List DeclData) (s : Nameless) (d : DeclData) (ts : List Nameless) : Type 0 where
@@ -379,7 +380,7 @@ abbrev mutual
   HasType p ks gs (a_string cs) t = t ≡ string_type
   HasType p ks gs (a_prim o place ty) t = PrimHas p ks (named primitives o) ty t
   HasType p ks gs (a_lam x ty body) t =
-      (u : Nameless) × IsValueType p ks ty × HasType p ks ((x, placed ks ty) ∷ gs) body u × (t ≡ arrow (placed ks ty) u)
+      (u : Nameless) × IsValueType p ks ty × HasType p ks ((x, Some (placed ks ty)) ∷ gs) body u × (t ≡ arrow (placed ks ty) u)
   HasType p ks gs (an_app f e) t = (a : Nameless) × HasType p ks gs f (arrow a t) × HasType p ks gs e a
   HasType p ks gs (a_tylam x k body) t =
       (u : Nameless) × HasType p ((x, k) ∷ ks) gs body u × (t ≡ forall k (closed_over (length ks) 0 u))

@@ -10,8 +10,8 @@ use Rattle.gh_typeterm.specs.declared.ty.TyNode.TheVariants as f
 use Rattle.gh_core.specs.declared.types.CoreType.TheVariants as t
 use Rattle.gh_core.specs.declared.terms.CoreTerm.TheVariants as c
 use Rattle.gh_core.specs.declared.terms.CoreName.TheVariants.{Hidden, Component, From}
-use Rattle.gh_core_text.specs.Levels.{within, within_list, level_of}
-use Rattle.gh_core_text.specs.Text.{Table, kind_text, type_text, core_name_text, tycon_text, head_text, decl_text, term_text}
+use Rattle.gh_core.specs.Levels.{within, within_list, level_of}
+use Rattle.gh_core.specs.Text.{Table, kind_text, type_text, core_name_text, tycon_text, head_text, decl_text, term_text}
 use Rattle.gh_core_text.specs.Shown.{is_name}
 use Rattle.gh_core_text.proofs.TypeForms.{kind_Star, kind_Arrow, type_Var, type_Con, type_App, type_Forall, type_Any, field_Var, field_App}
 use Rattle.gh_core_text.proofs.Forms.{text_Var, text_Int, text_Str, text_Lam, text_TyLam, text_TyApp}

@@ -2,7 +2,7 @@
 use Rattle.std.proofs.Common.{◌≡◌, ℕ, suc, ◌+◌, ◌<◌, List, ◌++◌, length, sym, ap, ◌∙◌, drop, arith, add-one, append_assoc}
 use Rattle.std.specs.Prelude.{codes, decimal}
 use Rattle.std.proofs.Math.Seq.{drop-cons}
-use Rattle.gh_core_text.specs.Text.{names_text}
+use Rattle.gh_core.specs.Text.{names_text}
 
 one_on : (count i : ℕ) (xs : List ℕ) → i < length xs → names_text (count + i) (drop i xs) ≡ codes " v" ++ (decimal (count + i) ++ names_text (count + (i + 1)) (drop (i + 1) xs))
 one_on count i xs lt =

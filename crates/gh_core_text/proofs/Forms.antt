@@ -10,8 +10,8 @@ use Rattle.gh_core.specs.declared.terms.CoreTerm.{CoreTerm, fold-roll-CoreTerm}
 use Rattle.gh_core.specs.declared.terms.CoreTerm.TheVariants as c
 use Rattle.gh_core.specs.declared.terms.CoreAlt.{CoreAlt}
 use Rattle.gh_core.specs.declared.terms.CoreAlt.TheOpen.{CoreTerm-F}
-use Rattle.gh_core_text.specs.Levels.{Scope, within, level_of}
-use Rattle.gh_core_text.specs.Text.{Table, Text, numbers_text, origin_text, place_text, result_text, binder_text, type_binder, type_text, alts_text, alt_text, term_text, alt_step, term_step}
+use Rattle.gh_core.specs.Levels.{Scope, within, level_of}
+use Rattle.gh_core.specs.Text.{Table, Text, numbers_text, origin_text, place_text, result_text, binder_text, type_binder, type_text, alts_text, alt_text, term_text, alt_step, term_step}
 
 pub text_Var : (table : Table) (x : ℕ) (vs ts : Scope) → term_text table (c.Var x) vs ts ≡ codes "v" ++ decimal (level_of vs x)
 text_Var table x vs ts = ap (λ t. term_text table t vs ts) (sym (c.rolls-Var x)) ∙ ap (λ f. f vs ts) (fold-roll-CoreTerm Text Text (alt_step table) (term_step table) (CoreTerm-F.Var x))

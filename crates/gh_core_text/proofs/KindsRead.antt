@@ -4,7 +4,7 @@ use Rattle.std.specs.Prelude.{codes}
 use Rattle.std.proofs.lemmas.Bool.{eq-eqb}
 use Rattle.gh_typeterm.specs.declared.kind.Kind.{Kind}
 use Rattle.gh_typeterm.specs.declared.kind.Kind.TheVariants as k
-use Rattle.gh_core_text.specs.Text.{kind_text}
+use Rattle.gh_core.specs.Text.{kind_text}
 use Rattle.gh_core_text.proofs.TypeForms.{kind_Star, kind_Arrow, kind_induction}
 
 -- whatever follows

@@ -5,9 +5,9 @@ use Rattle.std.proofs.lemmas.List.{drop_all}
 use Rattle.gh_core.specs.declared.types.CoreType.{CoreType}
 use Rattle.gh_core.specs.declared.terms.CoreTerm.{CoreTerm}
 use Rattle.gh_core.specs.declared.terms.CoreTerm.TheVariants as c
-use Rattle.gh_core_text.specs.Levels.{Scope, within_list}
+use Rattle.gh_core.specs.Levels.{Scope, within_list}
 use Rattle.gh_core_text.specs.Needs.{needs_type, needs_bindings, needs_term}
-use Rattle.gh_core_text.specs.Text.{Table, gap, binder_text, bindings_text, binders_of, term_text}
+use Rattle.gh_core.specs.Text.{Table, gap, binder_text, bindings_text, binders_of, term_text}
 use Rattle.gh_core_text.proofs.Chains.{then}
 use Rattle.gh_core_text.proofs.Places.{drop_item}
 use Rattle.gh_core_text.proofs.Shapes.{letrec_out}

@@ -3,7 +3,8 @@ use Rattle.std.proofs.Common.{◌≡◌, ℕ, suc, ◌==◌, Bool, true, false, 
 use Rattle.std.specs.Prelude.{if◌then◌else◌, nat_eq, IsSome, pred}
 use Rattle.std.specs.Map.{update}
 use Rattle.std.proofs.lemmas.Bool.{eq-eqb, eqb-true}
-use Rattle.gh_core_text.specs.Levels.{Scope, Entry, binder_of, before_of, scope_of, befores, bound_at}
+use Rattle.gh_core.specs.Levels.{Scope, bound_at}
+use Rattle.gh_core_text.specs.Entries.{Entry, binder_of, before_of, scope_of, befores}
 use Rattle.gh_core_text.proofs.Places.{bound_append}
 
 snoc_both : {X : Type 0} (xs ys : List X) (x y : X) → length xs ≡ length ys → xs ++ x ∷ [] ≡ ys ++ y ∷ [] → (xs ≡ ys) × (x ≡ y)

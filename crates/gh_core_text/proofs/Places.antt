@@ -4,7 +4,7 @@ use Rattle.std.specs.Prelude.{if◌then◌else◌, take, true, false}
 use Rattle.std.proofs.Math.Seq.{take-append_seam, drop-cons}
 use Rattle.std.proofs.lemmas.Bool.{eq-eqb, false_from_ne_true, eqb-true}
 use Rattle.std.proofs.lemmas.List.{take_more, length-append}
-use Rattle.gh_core_text.specs.Levels.{Scope, backwards, or_here, bound_at}
+use Rattle.gh_core.specs.Levels.{Scope, backwards, or_here, bound_at}
 
 pub bound_append : (xs : Scope) (b : ℕ × ℕ) (x : ℕ) → bound_at (xs ++ b ∷ []) x ≡ (if b.0 == x then Some b.1 else bound_at xs x)
 bound_append [] b x = elim (b.0 == x) as (λ t. or_here None (if t then Some b.1 else None) ≡ (if t then Some b.1 else None)) [ true ↦ refl | false ↦ refl ]

@@ -10,8 +10,8 @@ use Rattle.gh_core.specs.declared.types.CoreType.TheVariants as t
 use Rattle.gh_core.specs.declared.types.CoreType.TheOpen.{CoreType-F}
 use Rattle.gh_core.specs.SameType.{Nameless, bound, free, con, applied, forall, any, further, nameless, nameless_var, IsSame}
 use Rattle.gh_core.proofs.Nameless.{nameless-Var, nameless-Con, nameless-App, nameless-Forall, nameless-Any}
-use Rattle.gh_core_text.specs.Levels.{Scope, within, bound_at, level_at, level_of}
-use Rattle.gh_core_text.specs.Text.{Table, tycon_text, type_text}
+use Rattle.gh_core.specs.Levels.{Scope, within, bound_at, level_at, level_of}
+use Rattle.gh_core.specs.Text.{Table, tycon_text, type_text}
 use Rattle.gh_core_text.specs.Shown.{Shown, shown, IsNamed}
 use Rattle.gh_core_text.specs.Shown as s
 use Rattle.gh_core_text.specs.Leveled.{Leveled, l_var, l_con, l_app, l_all, l_any, leveled, leveled_step, named, HasCon, AreTold}

@@ -6,9 +6,9 @@ use Rattle.gh_core.specs.declared.terms.CoreTerm.{CoreTerm, fold-roll-CoreTerm}
 use Rattle.gh_core.specs.declared.terms.CoreTerm.TheVariants as c
 use Rattle.gh_core.specs.declared.terms.CoreAlt.TheShapes.{former-CoreTerm-LetRec-0}
 use Rattle.gh_core.specs.declared.terms.CoreAlt.TheOpen.{CoreTerm-F}
-use Rattle.gh_core_text.specs.Levels.{Scope, within_list}
+use Rattle.gh_core.specs.Levels.{Scope, within_list}
 use Rattle.gh_core_text.specs.Needs.{needs_type, needs_bindings, needs_term, needs_alt_step, needs_term_step}
-use Rattle.gh_core_text.specs.Text.{Table, Text, gap, binding_text, bindings_text, binders_of, letrec_text, term_text, alt_step, term_step}
+use Rattle.gh_core.specs.Text.{Table, Text, gap, binding_text, bindings_text, binders_of, letrec_text, term_text, alt_step, term_step}
 
 binders_mapped : (X Y : Type 0) (h : X → Y) (bs : List (ℕ × CoreType × X)) → binders_of (former-CoreTerm-LetRec-0.map X Y h bs) ≡ binders_of bs
 binders_mapped X Y h [] = refl

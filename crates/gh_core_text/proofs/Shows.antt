@@ -7,8 +7,8 @@ use Rattle.gh_typeterm.specs.declared.kind.Kind.{Kind}
 use Rattle.gh_core.specs.declared.types.CoreType.{CoreType, map-CoreType, roll-CoreType, ind-CoreType, fold-roll-CoreType}
 use Rattle.gh_core.specs.declared.types.CoreType.TheVariants as t
 use Rattle.gh_core.specs.declared.types.CoreType.TheOpen.{CoreType-F}
-use Rattle.gh_core_text.specs.Levels.{Scope, within, level_of}
-use Rattle.gh_core_text.specs.Text.{Table, tycon_text, applied, type_binder, spine_text, type_text}
+use Rattle.gh_core.specs.Levels.{Scope, within, level_of}
+use Rattle.gh_core.specs.Text.{Table, tycon_text, applied, type_binder, spine_text, type_text}
 use Rattle.gh_core_text.specs.Shown.{Shown, var, con, app, all, any, shown, shown_step, shown_text, IsNamed}
 use Rattle.gh_core_text.proofs.TypeForms.{type_Var, type_Con, type_App, type_Forall, type_Any}
 use Rattle.gh_core_text.proofs.TypesRead.{shown_text-injective}

@@ -11,8 +11,8 @@ use Rattle.gh_typeterm.proofs.Folds.{fold-Con, fold-Var, fold-App}
 use Rattle.gh_core.specs.declared.types.CoreType.{CoreType, fold-roll-CoreType}
 use Rattle.gh_core.specs.declared.types.CoreType.TheVariants as t
 use Rattle.gh_core.specs.declared.types.CoreType.TheOpen.{CoreType-F}
-use Rattle.gh_core_text.specs.Levels.{Scope, within, level_of}
-use Rattle.gh_core_text.specs.Text.{Table, tycon_text, kind_step, kind_text, applied, type_binder, type_step, spine_text, field_step, field_text}
+use Rattle.gh_core.specs.Levels.{Scope, within, level_of}
+use Rattle.gh_core.specs.Text.{Table, tycon_text, kind_step, kind_text, applied, type_binder, type_step, spine_text, field_step, field_text}
 
 pub kind_Star : kind_text k.Star ≡ codes "*"
 kind_Star = ap kind_text (sym k.rolls-Star) ∙ fold-roll-Kind (List ℕ) kind_step Kind-F.Star

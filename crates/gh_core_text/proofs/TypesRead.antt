@@ -3,7 +3,7 @@ use Rattle.std.proofs.Common.{◌≡◌, ◌==◌, true, false, Bool, ℕ, suc, 
 use Rattle.std.specs.Prelude.{◌&&◌, not, codes, decimal}
 use Rattle.std.proofs.lemmas.Fmt.{decimal_injective}
 use Rattle.gh_typeterm.specs.declared.kind.Kind.{Kind}
-use Rattle.gh_core_text.specs.Text.{kind_text, type_binder}
+use Rattle.gh_core.specs.Text.{kind_text, type_binder}
 use Rattle.gh_core_text.specs.Shown.{Shown, var, con, app, all, any, shown_text, all_plain, has_mark, begins, is_name, IsNamed}
 use Rattle.gh_core_text.proofs.KindsRead.{different, kind_reads}
 use Rattle.gh_core_text.proofs.Words.{and_left, and_right, not_true, Ends, word_split, append_cancel, plain_decimal}

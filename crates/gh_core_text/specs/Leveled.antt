@@ -4,8 +4,8 @@ use Rattle.gh_base.specs.declared.place.TyCon.{TyCon}
 use Rattle.gh_typeterm.specs.declared.kind.Kind.{Kind}
 use Rattle.gh_core.specs.declared.types.CoreType.{CoreType, fold-CoreType}
 use Rattle.gh_core.specs.declared.types.CoreType.TheOpen.{CoreType-F}
-use Rattle.gh_core_text.specs.Levels.{Scope, within, level_of}
-use Rattle.gh_core_text.specs.Text.{Table, tycon_text}
+use Rattle.gh_core.specs.Levels.{Scope, within, level_of}
+use Rattle.gh_core.specs.Text.{Table, tycon_text}
 use Rattle.gh_core_text.specs.Shown.{Shown, var, con, app, all, any}
 
 pub data Leveled : Type 0 where

@@ -1,5 +1,4 @@
-pub mod Levels
+pub mod Entries
 pub mod Needs
-pub mod Text
 pub mod Shown
 pub mod Leveled

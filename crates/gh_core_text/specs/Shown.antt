@@ -3,8 +3,8 @@ use Rattle.std.specs.Prelude.{◌≡◌, ℕ, ◌<◌, ◌^◌, suc, ◌==◌, �
 use Rattle.gh_typeterm.specs.declared.kind.Kind.{Kind}
 use Rattle.gh_core.specs.declared.types.CoreType.{CoreType, fold-CoreType}
 use Rattle.gh_core.specs.declared.types.CoreType.TheOpen.{CoreType-F}
-use Rattle.gh_core_text.specs.Levels.{Scope, within, level_of}
-use Rattle.gh_core_text.specs.Text.{Table, tycon_text, kind_text, applied, type_binder}
+use Rattle.gh_core.specs.Levels.{Scope, within, level_of}
+use Rattle.gh_core.specs.Text.{Table, tycon_text, kind_text, applied, type_binder}
 
 pub data Shown : Type 0 where
   var : (level : ℕ) → Shown

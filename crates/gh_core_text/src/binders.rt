@@ -2,7 +2,8 @@
 ghost use Rattle.std.specs.Prelude.{◌≡◌, ◌++◌, ◌∷◌, ◌<◌, ◌-◌, ◌^◌, ℕ, [], length, map, take, nat_eq, IsSome, OnOk};
 ghost use Rattle.std.specs.HashMap.{get};
 ghost use Rattle.std.specs.Map.{update};
-ghost use Rattle.gh_core_text.specs.Levels.{before_of, befores, bound_at, level_of, scope_of, within, within_list};
+ghost use Rattle.gh_core.specs.Levels.{bound_at, level_of, within, within_list};
+ghost use Rattle.gh_core_text.specs.Entries.{before_of, befores, scope_of};
 
 use gh_base::NoMemory;
 use std::alloc::Global;
@@ -21,7 +22,7 @@ pub struct Binders {
 
 impl Model for Binders {
     ghost use Rattle.std.specs.Prelude.{List, ℕ};
-    ghost use Rattle.gh_core_text.specs.Levels.{scope_of};
+    ghost use Rattle.gh_core_text.specs.Entries.{scope_of};
 
     ghost Value = { List (ℕ × ℕ) };
 

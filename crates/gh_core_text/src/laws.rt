@@ -4,9 +4,9 @@ ghost use Rattle.gh_typeterm.specs.declared.kind.Kind.{Kind};
 ghost use Rattle.gh_core.specs.declared.types.CoreType.{CoreType};
 ghost use Rattle.gh_core.specs.SameType.{IsSame};
 ghost use Rattle.gh_core_text.specs.Leveled.{AreTold};
-ghost use Rattle.gh_core_text.specs.Levels.{Scope};
+ghost use Rattle.gh_core.specs.Levels.{Scope};
 ghost use Rattle.gh_core_text.specs.Shown.{IsNamed, shown};
-ghost use Rattle.gh_core_text.specs.Text.{Table, kind_text, type_text};
+ghost use Rattle.gh_core.specs.Text.{Table, kind_text, type_text};
 
 /// A law: kinds with equal texts are equal.
 pub fn kinds_by_text()

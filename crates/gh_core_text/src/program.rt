@@ -1,7 +1,7 @@
 // Programs as text.
 ghost use Rattle.std.specs.Prelude.{◌≡◌, ◌≤◌, ◌++◌, [], length, OnOk, IfOk};
 ghost use Rattle.gh_core_text.specs.Needs.{needs_fields, needs_con, needs_cons, needs_decl, needs_decls, needs_def, needs_defs, needs_program};
-ghost use Rattle.gh_core_text.specs.Text.{params_text, fields_text, con_text, cons_text, data_word, decl_text, decls_text, def_text, defs_text, program_text};
+ghost use Rattle.gh_core.specs.Text.{params_text, fields_text, con_text, cons_text, data_word, decl_text, decls_text, def_text, defs_text, program_text};
 
 use crate::binders::Binders;
 use crate::terms::add_term;

@@ -1,9 +1,9 @@
 // Terms as text.
 ghost use Rattle.std.specs.Prelude.{◌≡◌, ◌≤◌, ◌<◌, ◌^◌, ◌++◌, ◌+◌, length, map, OnOk, IfOk};
 ghost use Rattle.std.specs.Fmt.{signed_decimal};
-ghost use Rattle.gh_core_text.specs.Levels.{within_list};
+ghost use Rattle.gh_core.specs.Levels.{within_list};
 ghost use Rattle.gh_core_text.specs.Needs.{needs_type, needs_term, needs_alt, needs_all, needs_result};
-ghost use Rattle.gh_core_text.specs.Text.{type_text, binder_text, binders_of, names_text, numbers_text, result_text, term_text, alt_text, alts_text};
+ghost use Rattle.gh_core.specs.Text.{type_text, binder_text, binders_of, names_text, numbers_text, result_text, term_text, alt_text, alts_text};
 
 use crate::binders::Binders;
 use crate::types::{

@@ -2,7 +2,7 @@
 ghost use Rattle.std.specs.Prelude.{◌≡◌, ◌≤◌, ◌++◌, length, OnOk, decimal};
 ghost use Rattle.gh_base.specs.Ids.{text_in};
 ghost use Rattle.gh_core_text.specs.Needs.{needs_id, needs_origin, needs_tycon, needs_name, needs_type, needs_field};
-ghost use Rattle.gh_core_text.specs.Text.{origin_text, tycon_text, head_text, braced, core_name_text, kind_text, opening, closing, type_binder, spine_text, field_text, place_text, gap};
+ghost use Rattle.gh_core.specs.Text.{origin_text, tycon_text, head_text, braced, core_name_text, kind_text, opening, closing, type_binder, spine_text, field_text, place_text, gap};
 
 use crate::binders::Binders;
 use gh_base::{Bytes, NameId, Names, NoMemory, Origin, Span, TyCon};
@@ -40,7 +40,7 @@ pub fn add_origin(out: &mut Bytes, names: &Names, origin: Origin) -> Result<(), 
     add_text(out, names, origin.name)
 }
 
-#[tactic(auto, unfolding(crate::specs::Text::tycon_text))]
+#[tactic(auto, unfolding(gh_core::specs::Text::tycon_text))]
 fn add_tycon(out: &mut Bytes, names: &Names, con: TyCon) -> Result<(), NoMemory>
     requires { needs_tycon con ≤ length names.now }
     ensures { OnOk result (out.new ≡ out.old ++ tycon_text names.now con) }
@@ -54,7 +54,7 @@ fn add_tycon(out: &mut Bytes, names: &Names, con: TyCon) -> Result<(), NoMemory>
     }
 }
 
-#[tactic(auto, unfolding(crate::specs::Text::head_text))]
+#[tactic(auto, unfolding(gh_core::specs::Text::head_text))]
 fn add_head(out: &mut Bytes, names: &Names, con: TyCon) -> Result<(), NoMemory>
     requires { needs_tycon con ≤ length names.now }
     ensures { OnOk result (out.new ≡ out.old ++ head_text names.now con) }
@@ -89,7 +89,7 @@ fn add_braced_number(out: &mut Bytes, number: u32) -> Result<(), NoMemory>
 }
 
 // The name of a definition.
-#[tactic(auto, unfolding(crate::specs::Text::core_name_text))]
+#[tactic(auto, unfolding(gh_core::specs::Text::core_name_text))]
 pub fn add_core_name(out: &mut Bytes, names: &Names, name: CoreName) -> Result<(), NoMemory>
     requires { needs_name name ≤ length names.now }
     ensures { OnOk result (out.new ≡ out.old ++ core_name_text names.now name) }

@@ -13,7 +13,7 @@ use Rattle.gh_machine.proofs.Envs.{env_in-push, env_in_last}
 use Rattle.gh_machine.proofs.Looks.{parent_is, same_test, other_test}
 use Rattle.gh_machine.proofs.Stacks.{args_from}
 
-slice_get_snoc : {X : Type 0} (xs : List X) (x y : X) (i : ℕ) → slice_get (xs ++ x ∷ []) i ≡ Some y → (slice_get xs i ≡ Some y) ⊎ ((i ≡ length xs) × (x ≡ y))
+pub slice_get_snoc : {X : Type 0} (xs : List X) (x y : X) (i : ℕ) → slice_get (xs ++ x ∷ []) i ≡ Some y → (slice_get xs i ≡ Some y) ⊎ ((i ≡ length xs) × (x ≡ y))
 slice_get_snoc [] x y zero e = let is : x ≡ y = cc in inr (refl, is)
 slice_get_snoc [] x y (suc i) e = inl e
 slice_get_snoc (z ∷ xs) x y zero e = inl e

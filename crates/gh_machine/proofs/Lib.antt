@@ -6,5 +6,6 @@ pub mod Looks
 pub mod Moves
 pub mod Picks
 pub mod Prefix
+pub mod Reaches
 pub mod Runs
 pub mod Stacks

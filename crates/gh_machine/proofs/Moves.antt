@@ -15,11 +15,13 @@ use Rattle.gh_core.specs.Run.{start}
 use Rattle.gh_core.proofs.Close.{close-empty}
 use Rattle.gh_machine.specs.Unload.{env_in, envs_of, demand_env, group, binds_in}
 use Rattle.gh_machine.specs.Stacks.{stack_in, AreWithin}
+use Rattle.gh_machine.specs.Reach.{demand_reach, IsNear, AreNear}
 use Rattle.gh_machine.specs.Sound.{state_of, IsHeld, Goes, Leads, IsBound}
 use Rattle.gh_machine.specs.declared.closure.Cell.{Cell}
 use Rattle.gh_machine.specs.declared.closure.Frame.{Frame}
 use Rattle.gh_machine.specs.declared.parts.Parts.{Parts}
 use Rattle.gh_machine.proofs.Stacks.{stack_same, within_more, after_is, after_all, has_more}
+use Rattle.gh_machine.proofs.Reaches.{near_more}
 use Rattle.gh_machine.proofs.Entered.{close_entered, close_chosen, close_unrolled}
 use Rattle.gh_machine.proofs.Envs.{env_in_zero}
 
@@ -31,6 +33,7 @@ goes_same p s h e = record {
   program = refl;
   cells = refl;
   stack = omega arith;
+  near = omega arith;
   pending = refl;
   cells_capacity = omega arith;
   stack_capacity = omega arith;
@@ -44,6 +47,7 @@ goes_to old new s t g e = record {
   program = g.program;
   cells = g.cells;
   stack = g.stack;
+  near = g.near;
   pending = g.pending;
   cells_capacity = g.cells_capacity;
   stack_capacity = g.stack_capacity;
@@ -57,6 +61,7 @@ leads_same p s h e = record {
   program = refl;
   total = omega arith;
   stack = omega arith;
+  near = omega arith;
   pending = omega arith;
   cells_capacity = omega arith;
   stack_capacity = omega arith;
@@ -70,6 +75,7 @@ leads_to old new s t g e = record {
   program = g.program;
   total = g.total;
   stack = g.stack;
+  near = g.near;
   pending = g.pending;
   cells_capacity = g.cells_capacity;
   stack_capacity = g.stack_capacity;
@@ -143,24 +149,31 @@ started cells fs out t a b c =
     (λ i. demand (close t (env_in (envs_of (a i)) 0)) (stack_in (envs_of (a i)) [] (b i)) (c i)) ∙ ap (λ u. demand u [] []) (close-empty t)
 
 -- cells were added
-pub held_bound : (old mid : Parts) (top : ℕ) (ρ : Env) → IsHeld old → IsBound old.cells.items mid.cells.items top ρ → mid.stack.items ≡ old.stack.items → mid.demand ≡ old.demand → IsHeld mid
-held_bound old mid top ρ h b s d =
+pub held_bound : (old mid : Parts) (top : ℕ) (ρ : Env) → IsHeld old → IsBound old.cells.items mid.cells.items top ρ → mid.stack.items ≡ old.stack.items → mid.demand ≡ old.demand → IsNear mid.furthest mid.cells.items → old.furthest ≤ mid.furthest → IsHeld mid
+held_bound old mid top ρ h b s d near far =
     let n = length mid.cells.items in
     let le = h.demand in
     let more = b.more in
+    let reached = h.reach.demand in
     record {
       cells = b.fine;
       demand = subst (λ k. demand_env k ≤ n) (sym d) (omega arith);
       stack = subst (λ fs. AreWithin n fs) (sym s) (within_more (length old.cells.items) n old.stack.items b.more h.stack);
+      reach = record {
+        cells = near;
+        demand = subst (λ k. demand_reach k ≤ mid.furthest) (sym d) (omega arith);
+        stack = subst (λ fs. AreNear mid.furthest fs) (sym s) (near_more old.furthest mid.furthest old.stack.items far h.reach.stack);
+      };
     }
 
 pub led_bound : (old mid new : Parts) (n top : ℕ) (t : Term) (ρ : Env) (s : State) → IsHeld old → IsBound old.cells.items mid.cells.items top ρ
     → mid.stack ≡ old.stack → mid.pending ≡ old.pending → mid.program ≡ old.program → vec_capacity old.cells ≤ vec_capacity mid.cells
     → Leads mid new (demand (close t (env_in (envs_of mid.cells.items) top)) (drop n (stack_in (envs_of mid.cells.items) [] mid.stack.items)) mid.pending.items)
     → vec_len new.cells + vec_len new.stack ≤ vec_len old.cells + vec_len old.stack + 2
+    → new.furthest ≤ old.furthest + 2
     → demand (close t ρ) (drop n (stack_in (envs_of old.cells.items) [] old.stack.items)) old.pending.items ≡ s
     → Leads old new s
-led_bound old mid new n top t ρ s h b st pe pr cap l total e =
+led_bound old mid new n top t ρ s h b st pe pr cap l total near e =
     let same : stack_in (envs_of mid.cells.items) [] mid.stack.items ≡ stack_in (envs_of old.cells.items) [] old.stack.items =
     ap (λ v. stack_in (envs_of mid.cells.items) [] v.items) st ∙ stack_same (envs_of old.cells.items) (envs_of mid.cells.items) (length old.cells.items) old.stack.items b.keeps h.stack in
     let a = ap (λ v. vec_len v) st in
@@ -177,6 +190,7 @@ led_bound old mid new n top t ρ s h b st pe pr cap l total e =
       state = l.state ∙ (λ i. demand (close t (b.env i)) (drop n (same i)) ((pe i).items)) ∙ e;
       program = l.program ∙ pr;
       total = total;
+      near = near;
       stack = omega (arith, a, l1);
       pending = omega (arith, q, l2);
       cells_capacity = omega arith;

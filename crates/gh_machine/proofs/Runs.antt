@@ -1,11 +1,14 @@
 -- One reduction after another.
-use Rattle.std.proofs.Common.{◌≡◌, ℕ, zero, suc, ◌+◌, ◌-◌, ◌≤◌, refl, sym, ap, ◌∙◌, arith, add-one}
+use Rattle.std.proofs.Common.{◌≡◌, ℕ, zero, suc, ◌+◌, ◌-◌, ◌*◌, ◌≤◌, length, refl, sym, ap, ◌∙◌, arith, add-one}
 use Rattle.gh_core.specs.Reduce.{State, Program, Status, running, ended, failed, reduce, reduce_in, reductions}
 use Rattle.gh_core.specs.Primitives.{Cause}
 use Rattle.gh_base.specs.declared.place.Span.{Span}
 use Rattle.gh_core.specs.Run.{program_of}
 use Rattle.gh_machine.specs.Sound.{IsHeld, HasRoom, Leads, state_of, program_in}
+use Rattle.gh_machine.specs.Unload.{envs_of}
+use Rattle.gh_machine.specs.Grown.{Grows}
 use Rattle.gh_machine.specs.declared.parts.Parts.{Parts}
+use Rattle.gh_machine.proofs.Stacks.{length-stack_in}
 
 -- after so many reductions
 pub record IsRun (n : ℕ) (start now : Parts) : Type 0 where
@@ -13,13 +16,24 @@ pub record IsRun (n : ℕ) (start now : Parts) : Type 0 where
   pub state : state_of now ≡ reductions (program_in start) n (state_of start)
   pub program : now.program ≡ start.program
   pub room : (m : ℕ) → HasRoom (n + m) start → HasRoom m now
+  pub grows : Grows n start now
 
 pub less_room : (n m : ℕ) (p : Parts) → m ≤ n → HasRoom n p → HasRoom m p
-less_room n m p le h = record { cells = let a = h.cells in omega arith; few = let a = h.few in omega arith; stack = let a = h.stack in omega arith; pending = let a = h.pending in omega arith }
+less_room n m p le h = record { cells = let a = h.cells in omega arith; few = let a = h.few in omega arith; near = let a = h.near in omega arith; stack = let a = h.stack in omega arith; pending = let a = h.pending in omega arith }
+
+grown_next : (n : ℕ) {s : State} (start now next : Parts) → Grows n start now → Leads now next s → Grows (n + 1) start next
+grown_next n start now next g l = record {
+  cells = let a = g.cells in let b = l.total in omega (arith, now.cells.ok.0, now.stack.ok.0, next.cells.ok.0, next.stack.ok.0);
+  stack = let a = g.stack in let b = l.stack in omega (arith, now.stack.ok.0, next.stack.ok.0);
+  pending = let a = g.pending in let b = l.pending in omega (arith, now.pending.ok.0, next.pending.ok.0);
+}
+
+pub grown_less : (n k : ℕ) (start now : Parts) → n ≤ k → Grows n start now → Grows k start now
+grown_less n k start now le g = record { cells = let a = g.cells in omega arith; stack = let a = g.stack in omega arith; pending = let a = g.pending in omega arith }
 
 pub run_none : (p : Parts) → IsHeld p → IsRun 0 p p
 unfolding reductions
-run_none p s = record { held = s; state = refl; program = refl; room = λ m h. less_room (0 + m) m p (omega arith) h }
+run_none p s = record { held = s; state = refl; program = refl; room = λ m h. less_room (0 + m) m p (omega arith) h; grows = record { cells = omega arith; stack = omega arith; pending = omega arith } }
 
 pub reductions_more : (p : Program) (n : ℕ) (s : State) → reductions p (suc n) s ≡ reduce p (reductions p n s)
 unfolding reductions
@@ -46,9 +60,11 @@ run_more n start now next r l = record {
   room = λ m h. let k = r.room (suc m) (less_room (n + 1 + m) (n + suc m) start (omega arith) h) in record {
     cells = let a = k.cells in let b = l.total in let d = l.cells_capacity in omega arith;
     few = let a = k.few in let b = l.total in omega arith;
+    near = let a = k.near in let b = l.near in omega arith;
     stack = let a = k.stack in let b = l.stack in let d = l.stack_capacity in omega arith;
     pending = let a = k.pending in let b = l.pending in let d = l.pending_capacity in omega arith;
   };
+  grows = grown_next n start now next r.grows l;
 }
 
 -- a run that has ended or failed stays
@@ -78,3 +94,12 @@ run_over n k start now r le stay =
     let e : n + (k - n) ≡ k = omega arith in
     sym (ap (λ j. reductions (program_in start) j (state_of start)) (sym e) ∙ sym (reductions_add (program_in start) n (k - n) (state_of start))
     ∙ ap (reductions (program_in start) (k - n)) (sym r.state) ∙ stay (k - n))
+
+-- what a run adds, by the state
+pub grown_state : (n : ℕ) (old new : Parts) → Grows n old new → (length new.cells.items + length (state_of new).stack ≤ length old.cells.items + length (state_of old).stack + 2 * n) × (length (state_of new).stack ≤ length (state_of old).stack + n)
+grown_state n old new g =
+    let a = length-stack_in (envs_of old.cells.items) old.stack.items in
+    let b = length-stack_in (envs_of new.cells.items) new.stack.items in
+    let d = g.cells in
+    let e = g.stack in
+    (omega arith, omega arith)

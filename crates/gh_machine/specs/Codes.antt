@@ -250,14 +250,15 @@ same_status (failed cause place) = ap (λ x. failed x place) (same_cause cause)
 abbrev pub coded_status : Coded Status
 coded_status = code_by Term coded_term status_term term_status same_status
 
--- what callers see: the program, the state, and for how many reductions there is room
+-- what callers see: the program, the state, the number of cells, and for how many reductions there is room
 pub record Seen : Type 0 where
   pub program : Erased
   pub state : State
+  pub cells : ℕ
   pub spare : ℕ
 
 abbrev pub coded_seen : Coded Seen
-coded_seen = code_by (Erased × (Term × (List Waiting × (List ℕ × (Status × ℕ))))) (coded× program.the_row.coded (coded× coded_term (coded× (coded_list coded_waiting) (coded× (coded_list coded_ℕ) (coded× coded_status coded_ℕ)))))
-    (λ s. (s.program, (s.state.focus, (s.state.stack, (s.state.out, (s.state.status, s.spare))))))
-    (λ p. record { program = p.0; state = record { focus = p.1.0; stack = p.1.1.0; out = p.1.1.1.0; status = p.1.1.1.1.0 }; spare = p.1.1.1.1.1 })
+coded_seen = code_by (Erased × (Term × (List Waiting × (List ℕ × (Status × (ℕ × ℕ)))))) (coded× program.the_row.coded (coded× coded_term (coded× (coded_list coded_waiting) (coded× (coded_list coded_ℕ) (coded× coded_status (coded× coded_ℕ coded_ℕ))))))
+    (λ s. (s.program, (s.state.focus, (s.state.stack, (s.state.out, (s.state.status, (s.cells, s.spare)))))))
+    (λ p. record { program = p.0; state = record { focus = p.1.0; stack = p.1.1.0; out = p.1.1.1.0; status = p.1.1.1.1.0 }; cells = p.1.1.1.1.1.0; spare = p.1.1.1.1.1.1 })
     (λ s. refl)

@@ -1,7 +1,9 @@
 pub mod Codes
+pub mod Grown
 pub mod Keys
 pub mod Picks
 pub mod Prefix
+pub mod Reach
 pub mod Sound
 pub mod Stacks
 pub mod Texts

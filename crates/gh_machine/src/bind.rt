@@ -5,6 +5,7 @@ ghost use Rattle.gh_core.specs.Reduce.{args_of};
 ghost use Rattle.gh_core.specs.Reading.{term_of};
 ghost use Rattle.gh_machine.specs.Unload.{IsFine, env_in, envs_of, env_of, closed_in, group, binds_in};
 ghost use Rattle.gh_machine.specs.Stacks.{stack_in, AreWithin};
+ghost use Rattle.gh_machine.specs.Reach.{reach_of, IsNear, AreNear};
 ghost use Rattle.gh_machine.specs.Sound.{IsBound};
 
 use crate::closure::{Cell, Closure, Frame, GROUP};
@@ -19,6 +20,7 @@ pub fn bind<'a>(cells: &mut Vec<Cell<'a>>, name: u32, parent: u32, value: Closur
     requires few { vec_len cells.old < 2 ^ 32 - 2 }
     requires room { vec_len cells.old < vec_capacity cells.old }
     ensures bound { IsBound cells.old.items cells.new.items result (put (env_in (envs_of cells.old.items) parent) name (closed_in (envs_of cells.old.items) value.entry)) }
+    ensures near { (n : ℕ) → IsNear n cells.old.items → reach_of value.entry ≤ n → IsNear n cells.new.items }
     ensures len { vec_len cells.new ≡ vec_len cells.old + 1 }
     ensures capacity { vec_capacity cells.old ≤ vec_capacity cells.new }
 {
@@ -40,6 +42,7 @@ pub fn bind_group<'a>(cells: &mut Vec<Cell<'a>>, env: u32, term: &'a ErasedTerm)
     requires few { vec_len cells.old < 2 ^ 32 - 2 }
     requires room { vec_len cells.old < vec_capacity cells.old }
     ensures bound { IsBound cells.old.items cells.new.items result (group (binds_in (term_of term.now)) (env_in (envs_of cells.old.items) env)) }
+    ensures near { (n : ℕ) → IsNear n cells.old.items → IsNear n cells.new.items }
     ensures len { vec_len cells.new ≡ vec_len cells.old + 1 }
     ensures capacity { vec_capacity cells.old ≤ vec_capacity cells.new }
 {
@@ -63,6 +66,7 @@ pub fn bind_args<'a>(cells: &mut Vec<Cell<'a>>, names: &[u32], stack: &[Frame<'a
     requires few { vec_len cells.old + length names.now < 2 ^ 32 - 1 }
     requires room { vec_len cells.old + length names.now ≤ vec_capacity cells.old }
     ensures bound { IsBound cells.old.items cells.new.items result (put_all (env_in (envs_of cells.old.items) env) names.now (args_of (stack_in (envs_of cells.old.items) [] stack.now))) }
+    ensures near { (n : ℕ) → IsNear n cells.old.items → AreNear n stack.now → IsNear n cells.new.items }
     ensures len { vec_len cells.new ≡ vec_len cells.old + length names.now }
     ensures capacity { vec_capacity cells.old ≤ vec_capacity cells.new }
 {

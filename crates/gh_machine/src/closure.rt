@@ -11,13 +11,13 @@ pub enum Closure<'a> {
     /// What stands under the constructor of a newtype in the scrutinee of this case, in an environment.
     Contents(u32, &'a ErasedTerm),
     /// A string from this character on.
-    Rest(usize, &'a ErasedTerm),
+    Rest(u32, &'a ErasedTerm),
     /// A character of a string.
-    Letter(usize, &'a ErasedTerm),
+    Letter(u32, &'a ErasedTerm),
     /// The decimal text of an integer from this character on.
-    Digits(usize, i64),
+    Digits(u32, i64),
     /// A character of the decimal text of an integer.
-    Digit(usize, i64),
+    Digit(u32, i64),
 }
 
 /// A name over an environment, or all names of a `letrec` over its own.
@@ -28,6 +28,11 @@ pub struct Cell<'a> {
     /// The environment below; `GROUP` for the names of a `letrec`, whose environment is the value's.
     pub parent: u32,
 }
+
+// What a cell takes in memory, in bytes.
+const CELL_SIZE: usize = size_of::<Cell<'static>>();
+
+const _: () = prove!(CELL_SIZE == 24);
 
 /// No environment.
 pub const GROUP: u32 = u32::MAX;

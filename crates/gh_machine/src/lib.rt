@@ -9,6 +9,7 @@ mod parts;
 mod pick;
 mod primitive;
 mod program;
+mod run;
 mod stack;
 mod step;
 mod table;

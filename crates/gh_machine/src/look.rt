@@ -1,6 +1,7 @@
 // What stands for a name.
-ghost use Rattle.std.specs.Prelude.{◌≡◌, ◌<◌, ◌≤◌, List, length, map, MatchOption};
+ghost use Rattle.std.specs.Prelude.{◌≡◌, ◌<◌, ◌≤◌, ℕ, List, length, map, MatchOption};
 ghost use Rattle.gh_machine.specs.Unload.{IsFine, env_in, env_of, envs_of, code_in, binds_in, group, place_of, demand_env, demand_code, demanded_in, IsFree, IsVariable};
+ghost use Rattle.gh_machine.specs.Reach.{demand_reach, IsNear};
 ghost use Rattle.gh_core.specs.Closing.{Env, close};
 ghost use Rattle.gh_core.specs.Reduce.{opened};
 ghost use Rattle.gh_core.specs.Read.{bind_of};
@@ -14,6 +15,7 @@ pub fn find<'a>(cells: &[Cell<'a>], name: u32, env: u32) -> Option<Demand<'a>>
     requires within { env ≤ length cells.now }
     ensures value { MatchOption result (env_in (envs_of cells.now) env name ≡ None) (λ c. env_in (envs_of cells.now) env name ≡ Some (demanded_in (envs_of cells.now) c)) }
     ensures below { MatchOption result Unit (λ c. demand_env c < env) }
+    ensures near { MatchOption result Unit (λ c. (n : ℕ) → IsNear n cells.now → demand_reach c ≤ n) }
 {
     let mut at = env;
     while at > 0 {
@@ -51,6 +53,7 @@ pub fn env_under(value: Closure) -> u32
 // What stands for a name in the bindings of a letrec.
 fn find_in<'a>(value: Closure<'a>, name: u32) -> Option<Demand<'a>>
     ensures value { MatchOption result ((ρ : Env) → group (binds_in (code_in value.entry)) ρ name ≡ ρ name) (λ c. (demand_env c ≡ env_of value.entry) × ((ρ : Env) → group (binds_in (code_in value.entry)) ρ name ≡ Some (close (demand_code c) ρ))) }
+    ensures near { MatchOption result Unit (λ c. demand_reach c ≡ 0) }
 {
     let Closure::Term(env, term) = value else {
         return None;
@@ -83,6 +86,7 @@ pub fn resolve<'a>(cells: &[Cell<'a>], demand: Demand<'a>) -> Demand<'a>
     requires within { demand_env demand ≤ length cells.now }
     ensures same { opened (demanded_in (envs_of cells.now) result) ≡ opened (demanded_in (envs_of cells.now) demand.entry) }
     ensures within { demand_env result ≤ demand_env demand.entry }
+    ensures near { (n : ℕ) → IsNear n cells.now → demand_reach demand.entry ≤ n → demand_reach result ≤ n }
     ensures free { IsFree (envs_of cells.now) result }
 {
     let mut at = demand;

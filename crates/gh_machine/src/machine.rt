@@ -1,5 +1,5 @@
 // The machine, as callers see it.
-ghost use Rattle.std.specs.Prelude.{◌≡◌, ◌+◌, ◌≤◌, [], IfOk, OnOk, OnErr};
+ghost use Rattle.std.specs.Prelude.{◌≡◌, ◌+◌, ◌*◌, ◌≤◌, [], length, IfOk, OnOk, OnErr};
 ghost use Rattle.gh_core.specs.Reading.{term_of};
 ghost use Rattle.gh_core.specs.Reduce.{reductions};
 ghost use Rattle.gh_core.specs.Run.{start, program_of};
@@ -14,7 +14,8 @@ use std::alloc::Global;
 use std::marker::Model;
 
 /// A run of a program. Contracts see the program, the state of the run (the term that is demanded, what waits for it, the bytes
-/// that were printed and not yet cleared, and whether it goes on), and for how many reductions there is room.
+/// that were printed and not yet cleared, and whether it goes on), how many cells hold the environments, and for how many
+/// reductions there is room.
 #[derive(Drop)]
 pub struct Machine<'a> {
     parts: Parts<'a>,
@@ -28,9 +29,10 @@ impl<'a> Model for Machine<'a> {
 
     ghost coded = { coded_seen };
 
+    ghost use Rattle.std.specs.Prelude.{length};
     ghost use Rattle.gh_machine.specs.Sound.{state_of, IsHeld, HasRoom};
 
-    ghost view = { λ m. record { program = m.parts.program; state = state_of m.parts; spare = m.spare } };
+    ghost view = { λ m. record { program = m.parts.program; state = state_of m.parts; cells = length m.parts.cells.items; spare = m.spare } };
 
     ghost invariant = { λ m. IsHeld m.parts × HasRoom m.spare m.parts };
 }
@@ -40,6 +42,7 @@ impl<'a> Machine<'a> {
     pub fn new(alloc: Global, program: &'a Erased) -> Result<Machine<'a>, NoMemory>
         ensures program { IfOk result (λ m. m.program ≡ program.now) }
         ensures state { IfOk result (λ m. m.state ≡ start (term_of program.now.main)) }
+        ensures cells { IfOk result (λ m. m.cells ≡ 0) }
         ensures spare { IfOk result (λ m. m.spare ≡ 0) }
     {
         Ok(Machine {
@@ -53,6 +56,7 @@ impl<'a> Machine<'a> {
         requires { k ≤ 1000 }
         ensures program { self.new.program ≡ self.old.program }
         ensures state { self.new.state ≡ self.old.state }
+        ensures cells { self.new.cells ≡ self.old.cells }
         ensures ok { OnOk result (k ≤ self.new.spare) }
         ensures kept { self.old.spare ≤ self.new.spare }
         ensures err { OnErr result (self.new ≡ self.old) }
@@ -72,12 +76,16 @@ impl<'a> Machine<'a> {
     }
 
     /// Makes so many reductions, or fewer where the run ends or fails, and answers how the run stands then: it goes on exactly where
-    /// all were made and the state still runs. It takes no memory.
+    /// all were made and the state still runs. It takes no memory. One reduction adds at most one entry to what waits, one printed
+    /// character of at most four bytes, and two to the cells and entries together: where a case binds names, their entries are gone.
     pub fn steps(&mut self, k: u32) -> Turn
         requires { k ≤ self.old.spare }
         ensures program { self.new.program ≡ self.old.program }
         ensures state { self.new.state ≡ reductions (program_of self.old.program) k self.old.state }
         ensures turn { status_of result ≡ self.new.state.status }
+        ensures cells { self.new.cells + length self.new.state.stack ≤ self.old.cells + length self.old.state.stack + 2 * k }
+        ensures stack { length self.new.state.stack ≤ length self.old.state.stack + k }
+        ensures printed { length self.new.state.out ≤ length self.old.state.out + 4 * k }
         ensures spare { self.old.spare ≤ self.new.spare + k }
     {
         self.spare -= k;
@@ -95,6 +103,7 @@ impl<'a> Machine<'a> {
     pub fn clear(&mut self)
         ensures program { self.new.program ≡ self.old.program }
         ensures state { self.new.state ≡ with_out [] self.old.state }
+        ensures cells { self.new.cells ≡ self.old.cells }
         ensures spare { self.new.spare ≡ self.old.spare }
     {
         self.parts.pending.clear();

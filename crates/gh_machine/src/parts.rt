@@ -1,5 +1,5 @@
 // The machine's state, and the demand of a term.
-ghost use Rattle.std.specs.Prelude.{◌≡◌, ◌+◌, ◌*◌, ◌<◌, ◌≤◌, ◌^◌, [], ◌∷◌, ◌++◌, length, vec_len, vec_capacity, IfOk, OnOk, ℕ, true, false, drop};
+ghost use Rattle.std.specs.Prelude.{◌≡◌, ◌+◌, ◌-◌, ◌*◌, ◌<◌, ◌≤◌, ◌^◌, [], ◌∷◌, ◌++◌, length, vec_len, vec_capacity, IfOk, OnOk, ℕ, true, false, drop};
 ghost use Rattle.gh_core.specs.Closing.{close, without, is_in};
 ghost use Rattle.gh_core.specs.Terms.{string};
 ghost use Rattle.gh_core.specs.Reading.{term_of};
@@ -8,6 +8,7 @@ ghost use Rattle.gh_core.specs.Run.{start};
 ghost use Rattle.gh_machine.specs.Unload.{IsFine, envs_of, env_in, env_of, closed_in, demanded_in, demand_env, group, binds_in};
 ghost use Rattle.gh_machine.specs.Stacks.{stack_in, waiting_in, env_of_frame, AreWithin};
 ghost use Rattle.gh_machine.specs.Texts.{text_of};
+ghost use Rattle.gh_machine.specs.Reach.{reach_of, demand_reach, frame_reach, text_reach, IsNear, AreNear};
 ghost use Rattle.gh_machine.specs.Values.{cause_of};
 ghost use Rattle.gh_machine.specs.Sound.{state_of, program_in, IsHeld, HasRoom, Goes, Leads};
 
@@ -17,7 +18,7 @@ use crate::look::resolve;
 use crate::primitive::prelude_value;
 use crate::program::Program;
 use crate::stack::{arg_at, count_args, drop_top, push_frame};
-use crate::text::{Head, Pair, Text, list_head, split};
+use crate::text::{Head, Pair, Text, further, list_head, split};
 use crate::turn::{Stop, StopCause, Turn};
 use gh_base::fixed::{CONS, NIL};
 use gh_base::{NoMemory, Origin, Span};
@@ -33,6 +34,8 @@ pub struct Parts<'a> {
     pub demand: Demand<'a>,
     pub turn: Turn,
     pub pending: Vec<u8>,
+    /// No text that is kept goes on from a later character than this.
+    pub furthest: u32,
 }
 
 impl<'a> Parts<'a> {
@@ -42,6 +45,7 @@ impl<'a> Parts<'a> {
         ensures state { IfOk result (λ p. state_of p ≡ start (term_of program.now.main)) }
         ensures program { IfOk result (λ p. p.program ≡ program.now) }
         ensures room { IfOk result (λ p. HasRoom 0 p) }
+        ensures cells { IfOk result (λ p. length p.cells.items ≡ 0) }
     {
         let mut parts = Parts {
             program: Program::new(alloc, program)?,
@@ -50,6 +54,7 @@ impl<'a> Parts<'a> {
             demand: Demand::At(Closure::Term(0, &program.main)),
             turn: Turn::Running,
             pending: Vec::new(alloc),
+            furthest: 0,
         };
         parts.go(Demand::At(Closure::Term(0, &program.main)));
         Ok(parts)
@@ -60,6 +65,10 @@ impl<'a> Parts<'a> {
         requires cells { IsFine self.old.cells.items }
         requires stack { AreWithin (length self.old.cells.items) self.old.stack.items }
         requires within { demand_env demand ≤ length self.old.cells.items }
+        requires near_cells { IsNear self.old.furthest self.old.cells.items }
+        requires near_stack { AreNear self.old.furthest self.old.stack.items }
+        requires near { demand_reach demand ≤ self.old.furthest }
+        requires far { self.old.furthest < 2 ^ 32 - 1 }
         requires room { 0 < vec_capacity self.old.stack }
         ensures { Goes self.old self.new (r.demand (demanded_in (envs_of self.old.cells.items) demand.entry) (stack_in (envs_of self.old.cells.items) [] self.old.stack.items) self.old.pending.items) }
     {
@@ -76,6 +85,8 @@ impl<'a> Parts<'a> {
     // A string is the printed list where nothing waits.
     fn settle_text(&mut self, text: Text<'a>)
         requires held { IsHeld self.old }
+        requires near { text_reach text ≤ self.old.furthest }
+        requires far { self.old.furthest < 2 ^ 32 - 1 }
         requires room { 0 < vec_capacity self.old.stack }
         ensures { Goes self.old self.new (r.settled_at (string (text_of text.entry)) (state_of self.old).stack (state_of self.old).out (state_of self.old)) }
     {
@@ -127,10 +138,13 @@ impl<'a> Parts<'a> {
         requires held { IsHeld self.old }
         requires first { env_of pair.first ≤ length self.old.cells.items }
         requires rest { env_of pair.rest ≤ length self.old.cells.items }
+        requires near_first { reach_of pair.first ≤ self.old.furthest }
+        requires near_rest { reach_of pair.rest ≤ self.old.furthest + 1 }
         requires empty { vec_len self.old.stack ≡ 0 }
         requires room { 0 < vec_capacity self.old.stack }
         ensures { Goes self.old self.new (r.at (closed_in (envs_of self.old.cells.items) pair.entry.first) (r.printing (closed_in (envs_of self.old.cells.items) pair.entry.rest) ∷ []) self.old.pending.items) }
     {
+        self.furthest = further(self.furthest, pair.rest);
         push_frame(&mut self.stack, Frame::Printing(pair.rest));
         self.demand = Demand::At(pair.first);
         self.turn = Turn::Running;
@@ -141,6 +155,9 @@ impl<'a> Parts<'a> {
         requires held { IsHeld self.old }
         requires frame { env_of_frame frame ≤ length self.old.cells.items }
         requires within { demand_env demand ≤ length self.old.cells.items }
+        requires near_frame { frame_reach frame ≤ self.old.furthest }
+        requires near { demand_reach demand ≤ self.old.furthest }
+        requires far { self.old.furthest < 2 ^ 32 - 1 }
         requires room { vec_len self.old.stack < vec_capacity self.old.stack }
         ensures { Leads self.old self.new (r.demand (demanded_in (envs_of self.old.cells.items) demand.entry) (waiting_in (envs_of self.old.cells.items) frame.entry ∷ (state_of self.old).stack) (state_of self.old).out) }
     {
@@ -153,9 +170,12 @@ impl<'a> Parts<'a> {
         requires held { IsHeld self.old }
         requires count { count ≤ vec_len self.old.stack }
         requires within { demand_env demand ≤ length self.old.cells.items }
+        requires near { demand_reach demand ≤ self.old.furthest }
+        requires far { self.old.furthest < 2 ^ 32 - 1 }
         requires room { 0 < vec_capacity self.old.stack }
         ensures leads { Leads self.old self.new (r.demand (demanded_in (envs_of self.old.cells.items) demand.entry) (drop count (state_of self.old).stack) (state_of self.old).out) }
         ensures less { vec_len self.new.cells + vec_len self.new.stack + count ≤ vec_len self.old.cells + vec_len self.old.stack + 1 }
+        ensures near { self.new.furthest ≤ self.old.furthest + 1 }
     {
         drop_top(&mut self.stack, count);
         self.go(demand);
@@ -168,6 +188,9 @@ impl<'a> Parts<'a> {
         requires some { 0 < count }
         requires frame { env_of_frame frame ≤ length self.old.cells.items }
         requires within { demand_env demand ≤ length self.old.cells.items }
+        requires near_frame { frame_reach frame ≤ self.old.furthest }
+        requires near { demand_reach demand ≤ self.old.furthest }
+        requires far { self.old.furthest < 2 ^ 32 - 1 }
         ensures { Leads self.old self.new (r.demand (demanded_in (envs_of self.old.cells.items) demand.entry) (waiting_in (envs_of self.old.cells.items) frame.entry ∷ drop count (state_of self.old).stack) (state_of self.old).out) }
     {
         drop_top(&mut self.stack, count);
@@ -200,13 +223,14 @@ impl<'a> Parts<'a> {
         requires small { k ≤ 1000 }
         ensures held { IsHeld self.new }
         ensures state { state_of self.new ≡ state_of self.old }
+        ensures cells { length self.new.cells.items ≡ length self.old.cells.items }
         ensures program { self.new.program ≡ self.old.program }
         ensures room { OnOk result (HasRoom k self.new) }
         ensures kept { (n : ℕ) → HasRoom n self.old → HasRoom n self.new }
     {
         let held = self.cells.len().checked_add(self.stack.len());
         match held {
-            Some(held) if held < 4_294_965_000 => {
+            Some(held) if held < 4_294_965_000 && self.furthest < 4_294_965_000 => {
                 let k = k as usize;
                 self.cells.reserve(self.stack.len() + 2 * k)?;
                 self.stack.reserve(k)?;

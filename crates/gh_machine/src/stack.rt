@@ -4,6 +4,7 @@ ghost use Rattle.gh_core.specs.Closing.{Env};
 ghost use Rattle.gh_core.specs.Reduce.{args_of, arg};
 ghost use Rattle.gh_machine.specs.Unload.{closed_in, env_of};
 ghost use Rattle.gh_machine.specs.Stacks.{stack_in, waiting_in, env_of_frame, AreWithin};
+ghost use Rattle.gh_machine.specs.Reach.{reach_of, frame_reach, AreNear};
 
 use crate::closure::{Closure, Frame};
 
@@ -11,6 +12,7 @@ use crate::closure::{Closure, Frame};
 pub fn frame_at<'a>(stack: &[Frame<'a>], i: usize) -> Option<Frame<'a>>
     ensures value { MatchOption result ((envs : List Env) → drop i (stack_in envs [] stack.now) ≡ []) (λ f. (envs : List Env) → drop i (stack_in envs [] stack.now) ≡ waiting_in envs f ∷ drop (i + 1) (stack_in envs [] stack.now)) }
     ensures within { MatchOption result Unit (λ f. (n : ℕ) → AreWithin n stack.now → env_of_frame f ≤ n) }
+    ensures near { MatchOption result Unit (λ f. (n : ℕ) → AreNear n stack.now → frame_reach f ≤ n) }
     ensures inside { MatchOption result Unit (λ f. i < length stack.now) }
 {
     if i < stack.len() {
@@ -25,6 +27,7 @@ pub fn frame_at<'a>(stack: &[Frame<'a>], i: usize) -> Option<Frame<'a>>
 pub fn arg_at<'a>(stack: &[Frame<'a>], i: usize) -> Option<Closure<'a>>
     ensures value { MatchOption result ((envs : List Env) → args_of (drop i (stack_in envs [] stack.now)) ≡ []) (λ v. (envs : List Env) → drop i (stack_in envs [] stack.now) ≡ arg (closed_in envs v) ∷ drop (i + 1) (stack_in envs [] stack.now)) }
     ensures within { MatchOption result Unit (λ v. (n : ℕ) → AreWithin n stack.now → env_of v ≤ n) }
+    ensures near { MatchOption result Unit (λ v. (n : ℕ) → AreNear n stack.now → reach_of v ≤ n) }
     ensures inside { MatchOption result Unit (λ v. i < length stack.now) }
 {
     match frame_at(stack, i) {
@@ -68,6 +71,7 @@ pub fn drop_top<'a>(stack: &mut Vec<Frame<'a>>, n: usize)
     requires { n ≤ vec_len stack.old }
     ensures stack { (envs : List Env) → stack_in envs [] stack.new.items ≡ drop n (stack_in envs [] stack.old.items) }
     ensures within { (m : ℕ) → AreWithin m stack.old.items → AreWithin m stack.new.items }
+    ensures near { (m : ℕ) → AreNear m stack.old.items → AreNear m stack.new.items }
     ensures len { vec_len stack.new + n ≡ vec_len stack.old }
     ensures capacity { vec_capacity stack.old ≤ vec_capacity stack.new }
 {
@@ -80,6 +84,7 @@ pub fn push_frame<'a>(stack: &mut Vec<Frame<'a>>, frame: Frame<'a>)
     requires { vec_len stack.old < vec_capacity stack.old }
     ensures stack { (envs : List Env) → stack_in envs [] stack.new.items ≡ waiting_in envs frame.entry ∷ stack_in envs [] stack.old.items }
     ensures within { (m : ℕ) → AreWithin m stack.old.items → env_of_frame frame.entry ≤ m → AreWithin m stack.new.items }
+    ensures near { (m : ℕ) → AreNear m stack.old.items → frame_reach frame.entry ≤ m → AreNear m stack.new.items }
     ensures len { vec_len stack.new ≡ vec_len stack.old + 1 }
     ensures capacity { vec_capacity stack.old ≤ vec_capacity stack.new }
 {

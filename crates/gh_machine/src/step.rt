@@ -7,6 +7,7 @@ ghost use Rattle.gh_core.specs.Reading.{term_of, defs_of};
 ghost use Rattle.gh_core.specs.Reduce as r;
 ghost use Rattle.gh_machine.specs.Unload.{envs_of, env_in, demanded_in, demand_env, alts_in, scrutinee_in, IsFree, env_of, closed_in};
 ghost use Rattle.gh_machine.specs.Texts.{text_of};
+ghost use Rattle.gh_machine.specs.Reach.{reach_of, text_reach, demand_reach};
 ghost use Rattle.gh_machine.specs.Values.{literal_of, outcome_of, status_of};
 ghost use Rattle.gh_machine.specs.Picks.{HasNames, goes_on};
 ghost use Rattle.gh_machine.specs.Sound.{state_of, program_in, IsHeld, HasRoom, Leads};
@@ -22,8 +23,8 @@ use crate::primitive::{
     Literal, Outcome, Primitive, binary_outcome, prelude_value, primitive_named, unary_outcome,
 };
 use crate::stack::{add, arg_at, count_args, frame_at};
-use crate::text::{Pair, Text, digit, letter, split};
-use crate::turn::{StopCause, Turn};
+use crate::text::{Pair, Text, digit, further, letter, split};
+use crate::turn::StopCause;
 use gh_base::fixed::{CONS, NIL};
 use gh_base::{Origin, Span};
 use gh_core::{CoreName, ErasedTerm};
@@ -141,6 +142,7 @@ impl<'a> Parts<'a> {
     // A string for what waits.
     fn give_text(&mut self, text: Text<'a>)
         requires held { IsHeld self.old }
+        requires near { text_reach text ≤ self.old.furthest }
         requires room { HasRoom 1 self.old }
         ensures { Leads self.old self.new (r.give (r.string_con (text_of text.entry)) (r.string_args (text_of text.entry)) (state_of self.old).stack (state_of self.old).out (state_of self.old)) }
     {
@@ -181,6 +183,8 @@ impl<'a> Parts<'a> {
         requires within { env ≤ length self.old.cells.items }
         requires first { env_of pair.first ≡ 0 }
         requires rest { env_of pair.rest ≡ 0 }
+        requires near_first { reach_of pair.first ≤ self.old.furthest }
+        requires near_rest { reach_of pair.rest ≤ self.old.furthest + 1 }
         requires room { HasRoom 1 self.old }
         ensures { Leads self.old self.new (r.choose (close_alts (alts_in (term_of case.now)) (env_in (envs_of self.old.cells.items) env)) p.cons (closed_in (envs_of self.old.cells.items) pair.entry.first ∷ closed_in (envs_of self.old.cells.items) pair.entry.rest ∷ []) (drop 1 (state_of self.old).stack) (state_of self.old).out (state_of self.old)) }
     {
@@ -198,9 +202,12 @@ impl<'a> Parts<'a> {
         requires within { env ≤ length self.old.cells.items }
         requires first { env_of pair.first ≡ 0 }
         requires rest { env_of pair.rest ≡ 0 }
+        requires near_first { reach_of pair.first ≤ self.old.furthest }
+        requires near_rest { reach_of pair.rest ≤ self.old.furthest + 1 }
         requires room { HasRoom 1 self.old }
         ensures { Leads self.old self.new (r.demand (close (term_of body.now) (put_all (env_in (envs_of self.old.cells.items) env) (x ∷ y ∷ []) (closed_in (envs_of self.old.cells.items) pair.entry.first ∷ closed_in (envs_of self.old.cells.items) pair.entry.rest ∷ []))) (drop 1 (state_of self.old).stack) (state_of self.old).out) }
     {
+        self.furthest = further(self.furthest, pair.rest);
         let below = bind(&mut self.cells, y, env, pair.rest);
         let top = bind(&mut self.cells, x, below, pair.first);
         self.go_without(1, Demand::At(Closure::Term(top, body)));
@@ -292,6 +299,7 @@ impl<'a> Parts<'a> {
         requires held { IsHeld self.old }
         requires some { 0 < vec_len self.old.stack }
         requires within { env_of rest ≤ length self.old.cells.items }
+        requires near { reach_of rest ≤ self.old.furthest }
         requires room { HasRoom 1 self.old }
         ensures { Leads self.old self.new (r.print (literal_of literal) (closed_in (envs_of self.old.cells.items) rest.entry) (drop 1 (state_of self.old).stack) (state_of self.old).out (state_of self.old)) }
     {
@@ -332,6 +340,7 @@ impl<'a> Parts<'a> {
     fn act_at(&mut self, value: Closure<'a>)
         requires held { IsHeld self.old }
         requires within { env_of value ≤ length self.old.cells.items }
+        requires near { reach_of value ≤ self.old.furthest }
         requires free { IsFree (envs_of self.old.cells.items) (Demand.At value) }
         requires room { HasRoom 1 self.old }
         ensures { Leads self.old self.new (r.reduce_at (program_in self.old) (r.opened (closed_in (envs_of self.old.cells.items) value.entry)) (state_of self.old).stack (state_of self.old).out (state_of self.old)) }
@@ -353,6 +362,7 @@ impl<'a> Parts<'a> {
     fn act(&mut self, demand: Demand<'a>)
         requires held { IsHeld self.old }
         requires within { demand_env demand ≤ length self.old.cells.items }
+        requires near { demand_reach demand ≤ self.old.furthest }
         requires free { IsFree (envs_of self.old.cells.items) demand }
         requires room { HasRoom 1 self.old }
         ensures { Leads self.old self.new (r.reduce_at (program_in self.old) (r.opened (demanded_in (envs_of self.old.cells.items) demand.entry)) (state_of self.old).stack (state_of self.old).out (state_of self.old)) }
@@ -374,26 +384,6 @@ impl<'a> Parts<'a> {
     {
         let demand = resolve(&self.cells, self.demand);
         self.act(demand);
-    }
-
-    /// So many reductions, or fewer where the run ends or fails. It takes no memory.
-    pub fn steps(&mut self, k: u32) -> Turn
-        requires held { IsHeld self.old }
-        requires room { HasRoom k self.old }
-        ensures held { IsHeld self.new }
-        ensures state { state_of self.new ≡ r.reductions (program_in self.old) k (state_of self.old) }
-        ensures turn { result ≡ self.new.turn }
-        ensures program { self.new.program ≡ self.old.program }
-        ensures room { (n : ℕ) → HasRoom (k + n) self.old → HasRoom n self.new }
-    {
-        for _ in 0..k {
-            match self.turn {
-                Turn::Running => self.step(),
-                Turn::Ended => return self.turn,
-                Turn::Failed(_) => return self.turn,
-            }
-        }
-        self.turn
     }
 }
 

@@ -1,6 +1,6 @@
 use Rattle.std.proofs.Common.{◌≡◌, ◌≤◌, ◌++◌, drop, length}
 use Rattle.gh_core_text.specs.Needs.{needs_cons}
-use Rattle.gh_core_text.specs.Text.{cons_text}
+use Rattle.gh_core.specs.Text.{cons_text}
 use Rattle.gh_core_text.proofs.program.add_constructors.Given as goal
 
 abbrev pub invariant-loop-con : goal.invariant-loop-con

@@ -1,6 +1,6 @@
 use Rattle.std.proofs.Common.{◌≡◌, ◌≤◌, ◌++◌, drop, length}
 use Rattle.gh_core_text.specs.Needs.{needs_decls}
-use Rattle.gh_core_text.specs.Text.{decls_text}
+use Rattle.gh_core.specs.Text.{decls_text}
 use Rattle.gh_core_text.proofs.program.add_decls.Given as goal
 
 abbrev pub invariant-loop-decl : goal.invariant-loop-decl

@@ -1,6 +1,6 @@
 use Rattle.std.proofs.Common.{◌≡◌, ◌≤◌, ◌++◌, drop, length}
 use Rattle.gh_core_text.specs.Needs.{needs_defs}
-use Rattle.gh_core_text.specs.Text.{defs_text}
+use Rattle.gh_core.specs.Text.{defs_text}
 use Rattle.gh_core_text.proofs.program.add_defs.Given as goal
 
 abbrev pub invariant-loop-def : goal.invariant-loop-def

@@ -1,6 +1,6 @@
 use Rattle.std.proofs.Common.{◌≡◌, ◌≤◌, ◌++◌, drop, length}
 use Rattle.gh_core_text.specs.Needs.{needs_fields}
-use Rattle.gh_core_text.specs.Text.{fields_text}
+use Rattle.gh_core.specs.Text.{fields_text}
 use Rattle.gh_core_text.proofs.program.add_field_types.Given as goal
 
 abbrev pub invariant-loop-field : goal.invariant-loop-field

@@ -1,5 +1,5 @@
 use Rattle.std.proofs.Common.{◌≡◌, ◌++◌, drop}
-use Rattle.gh_core_text.specs.Text.{params_text}
+use Rattle.gh_core.specs.Text.{params_text}
 use Rattle.gh_core_text.proofs.program.add_params.Given as goal
 
 abbrev pub invariant-loop-place : goal.invariant-loop-place

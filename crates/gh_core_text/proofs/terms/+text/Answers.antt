@@ -2,7 +2,7 @@ use Rattle.std.proofs.Common.{rules, arith, ◌≡◌, ◌++◌, ◌∙◌, sym,
 use Rattle.std.specs.Prelude.{codes, decimal}
 use Rattle.std.specs.Fmt.{signed_decimal}
 use Rattle.gh_core.specs.declared.terms.CoreTerm.TheVariants as core
-use Rattle.gh_core_text.specs.Text.{origin_text, place_text, result_text, binder_text, numbers_text, type_binder, spine_text, term_text, alt_text, alts_text}
+use Rattle.gh_core.specs.Text.{origin_text, place_text, result_text, binder_text, numbers_text, type_binder, spine_text, term_text, alt_text, alts_text}
 use Rattle.gh_core_text.proofs.Chains.{on, then}
 use Rattle.gh_core_text.proofs.Letrec.{none_of, needs_rest, written_rest, letrec_done}
 use Rattle.gh_core_text.proofs.Forms.{text_Var, text_Int, text_Char, text_Str, text_Prim, text_Lam, text_App, text_TyLam, text_TyApp, text_Stop, text_Case_plain, text_Case_else}

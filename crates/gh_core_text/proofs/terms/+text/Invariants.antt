@@ -1,6 +1,6 @@
 use Rattle.std.proofs.Common.{◌≡◌, ◌≤◌, ◌++◌, drop, length, map}
 use Rattle.gh_core_text.specs.Needs.{needs_alt, needs_all, needs_bindings, needs_term}
-use Rattle.gh_core_text.specs.Text.{alt_text, alts_text, bindings_text, term_text}
+use Rattle.gh_core.specs.Text.{alt_text, alts_text, bindings_text, term_text}
 use Rattle.gh_core_text.proofs.terms.+text.Given as goal
 
 abbrev pub invariant-add_alternatives-loop-alternative : goal.invariant-add_alternatives-loop-alternative

@@ -1,5 +1,5 @@
 use Rattle.std.proofs.Common.{◌≡◌, ◌++◌, drop}
-use Rattle.gh_core_text.specs.Text.{numbers_text}
+use Rattle.gh_core.specs.Text.{numbers_text}
 use Rattle.gh_core_text.proofs.terms.add_characters.Given as goal
 
 abbrev pub invariant-loop-char : goal.invariant-loop-char

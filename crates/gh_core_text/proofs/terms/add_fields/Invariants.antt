@@ -1,5 +1,5 @@
 use Rattle.std.proofs.Common.{◌≡◌, ◌++◌, ◌+◌, drop, length}
-use Rattle.gh_core_text.specs.Text.{names_text}
+use Rattle.gh_core.specs.Text.{names_text}
 use Rattle.gh_core_text.proofs.terms.add_fields.Given as goal
 
 abbrev pub invariant-loop-place : goal.invariant-loop-place

@@ -1,6 +1,6 @@
 use Rattle.std.proofs.Common.{◌≡◌, ◌++◌, ◌-◌, ◌+◌, drop, length}
-use Rattle.gh_core_text.specs.Levels.{backwards}
-use Rattle.gh_core_text.specs.Text.{binders_of}
+use Rattle.gh_core.specs.Levels.{backwards}
+use Rattle.gh_core.specs.Text.{binders_of}
 use Rattle.gh_core_text.proofs.terms.bind_all.Given as goal
 
 abbrev pub invariant-loop-taken : goal.invariant-loop-taken

@@ -26,6 +26,7 @@ loop-left-preserved c =
       bound = bound_more old c.loop-left.cells.items c.bind-top.new.cells.items c.args.env c.loop-left.top c.bind-top.result i xs ws (get_or xs i 0) c.in-Some.value
           (subst (λ k. IsBound old c.loop-left.cells.items c.loop-left.top (from_place old c.args.env xs ws k)) e c.loop-left.invariant.bound)
           c.bind-top.ensures.bound (omega arith) (omega arith) refl (c.in-Some.ensures.within (length old) c.requires.stack) (c.in-Some.ensures.value (envs_of old));
+      near = λ n cells stack. c.bind-top.ensures.near n (c.loop-left.invariant.near n cells stack) (c.in-Some.ensures.near n stack);
       len = omega arith;
       capacity = omega arith;
     }

@@ -18,8 +18,8 @@ pair at number lt =
       rest_env = refl;
     }
 
-pub returns-then-at-digits : goal.returns-then-at-digits
-returns-then-at-digits c =
+pub returns-then-at-digits-clause-value : goal.returns-then-at-digits-clause-value
+returns-then-at-digits-clause-value c =
     let i = c.args.at in
     let same = to_z-of_z c.ranges.number in
     let n = ap (λ m. length (signed_decimal m)) same in

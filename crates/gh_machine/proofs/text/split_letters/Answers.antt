@@ -3,8 +3,8 @@ use Rattle.gh_core.specs.Reading.{term_of}
 use Rattle.gh_machine.specs.Unload.{chars_in}
 use Rattle.gh_machine.proofs.text.split_letters.Goals as goal
 
-pub returns-then-at-chars_of : goal.returns-then-at-chars_of
-returns-then-at-chars_of c =
+pub returns-then-at-chars_of-clause-value : goal.returns-then-at-chars_of-clause-value
+returns-then-at-chars_of-clause-value c =
     let cs = chars_in (term_of c.args.term.now) in
     let i = c.args.at in
     let n = ap length c.chars_of.ensures in

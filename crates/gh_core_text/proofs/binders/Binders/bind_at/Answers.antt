@@ -1,6 +1,6 @@
 use Rattle.std.proofs.Common.{◌∙◌, nat_eq}
 use Rattle.std.specs.HashMap.{get}
-use Rattle.gh_core_text.specs.Levels.{Entry}
+use Rattle.gh_core_text.specs.Entries.{Entry}
 use Rattle.gh_core_text.proofs.Nearest.{added_agrees, added_befores}
 use Rattle.gh_core_text.proofs.binders.Binders.bind_at.Goals as goal
 

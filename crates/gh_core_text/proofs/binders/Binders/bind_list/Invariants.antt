@@ -1,5 +1,5 @@
 use Rattle.std.proofs.Common.{◌≡◌, ◌++◌, ◌-◌, ◌+◌, drop, length}
-use Rattle.gh_core_text.specs.Levels.{backwards}
+use Rattle.gh_core.specs.Levels.{backwards}
 use Rattle.gh_core_text.proofs.binders.Binders.bind_list.Given as goal
 
 abbrev pub invariant-loop-taken : goal.invariant-loop-taken

@@ -2,7 +2,7 @@ use Rattle.std.proofs.Common.{ap, ◌∙◌, nat_eq}
 use Rattle.std.specs.HashMap.{get}
 use Rattle.std.specs.Prelude.{◌++◌}
 use Rattle.std.specs.Option.{option_to_list}
-use Rattle.gh_core_text.specs.Levels.{Entry}
+use Rattle.gh_core_text.specs.Entries.{Entry}
 use Rattle.gh_core_text.proofs.Nearest.{taken_agrees, taken_befores, taken_there}
 use Rattle.gh_core_text.proofs.binders.Binders.unbind.Goals as goal
 

@@ -10,7 +10,7 @@ use Rattle.gh_machine.proofs.Moves.{held_bound, led_bound}
 use Rattle.gh_machine.proofs.parts.Parts.begin_case.Goals as goal
 
 pub go_without-requires-clause-held : goal.go_without-requires-clause-held
-go_without-requires-clause-held c = held_bound c.args.self.now _ _ _ c.requires.held c.bind-top.ensures.bound refl refl
+go_without-requires-clause-held c = held_bound c.args.self.now _ _ _ c.requires.held c.bind-top.ensures.bound refl refl (c.bind-top.ensures.near c.args.self.now.furthest c.requires.held.reach.cells (omega arith)) (omega arith)
 
 pub returns-in-Some : goal.returns-in-Some
 returns-in-Some c =
@@ -22,5 +22,5 @@ returns-in-Some c =
     let b = term_of one.body.now in
     let v = close (contents_in T) ρ in
     let on = subst (λ nt. IsOnNewtype nt T one) c.newtypes.ensures c.in-Some.ensures in
-    led_bound p (record { program = p.program; cells = c.bind-top.new.cells; stack = p.stack; demand = p.demand; turn = p.turn; pending = p.pending }) c.go_without.new.self 0 c.bind-top.result b (put ρ one.name v) _ c.requires.held c.bind-top.ensures.bound refl refl refl (omega arith) c.go_without.ensures.leads (omega (arith, c.go_without.ensures.less, c.bind-top.ensures.len))
+    led_bound p (record { program = p.program; cells = c.bind-top.new.cells; stack = p.stack; demand = p.demand; turn = p.turn; pending = p.pending; furthest = p.furthest }) c.go_without.new.self 0 c.bind-top.result b (put ρ one.name v) _ c.requires.held c.bind-top.ensures.bound refl refl refl (omega arith) c.go_without.ensures.leads (omega (arith, c.go_without.ensures.less, c.bind-top.ensures.len)) (omega (arith, c.go_without.ensures.near))
     (sym (on ρ ws p.pending.items ∙ ap (λ t. demand t ws p.pending.items) (close_chosen b ρ (one.name ∷ []) (v ∷ []) refl)))

@@ -15,9 +15,10 @@ returns-clause-room c =
     let e = g.cells_capacity in
     let f = g.stack_capacity in
     let h = g.pending_capacity in
+    let n = g.near in
     let l1 = c.in_ok-with_capacity.ensures.len in
     let l2 = c.in_ok-with_capacity-2.ensures.len in
     let x1 = c.in_ok-with_capacity.ensures.exact in
     let x2 = c.in_ok-with_capacity-2.ensures.exact in
     let l3 = c.new-2.ensures.len in
-    record { cells = omega arith; few = omega arith; stack = omega arith; pending = omega arith }
+    record { cells = omega arith; few = omega arith; near = omega arith; stack = omega arith; pending = omega arith }

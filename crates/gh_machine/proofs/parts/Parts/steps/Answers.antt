@@ -1,7 +1,7 @@
 use Rattle.std.proofs.Common.{◌+◌, ap, arith}
 use Rattle.gh_machine.specs.Sound.{program_in, state_of}
 use Rattle.gh_machine.specs.Values.{status_of, cause_of}
-use Rattle.gh_machine.proofs.Runs.{run_none, run_more, less_room, run_over, stays_ended, stays_failed}
+use Rattle.gh_machine.proofs.Runs.{run_none, run_more, less_room, grown_less, run_over, stays_ended, stays_failed}
 use Rattle.gh_machine.proofs.parts.Parts.steps.Goals as goal
 
 pub loop-init : goal.loop-init
@@ -23,6 +23,12 @@ returns-in-Failed-clause-state c =
 
 pub returns-in-Failed-clause-room : goal.returns-in-Failed-clause-room
 returns-in-Failed-clause-room c = λ n h. c.loop.invariant.room n (less_room (c.args.k + n) (c.loop.counter + n) c.args.self.now (omega arith) h)
+
+pub returns-in-Ended-clause-grows : goal.returns-in-Ended-clause-grows
+returns-in-Ended-clause-grows c = grown_less c.loop.counter c.args.k c.args.self.now c.loop.self (omega arith) c.loop.invariant.grows
+
+pub returns-in-Failed-clause-grows : goal.returns-in-Failed-clause-grows
+returns-in-Failed-clause-grows c = grown_less c.loop.counter c.args.k c.args.self.now c.loop.self (omega arith) c.loop.invariant.grows
 
 pub loop-preserved : goal.loop-preserved
 loop-preserved c = run_more c.loop.counter c.args.self.now c.loop.self c.step.new.self c.loop.invariant c.step.ensures

@@ -22,7 +22,7 @@ use Rattle.gh_core.specs.declared.terms.CoreProgram.{CoreProgram}
 use Rattle.gh_core.specs.declared.terms.CoreTerm.{CoreTerm, fold-CoreTerm}
 use Rattle.gh_core.specs.declared.terms.CoreAlt.{CoreAlt, fold-CoreAlt}
 use Rattle.gh_core.specs.declared.terms.CoreAlt.TheOpen.{CoreTerm-F, CoreAlt-F}
-use Rattle.gh_core_text.specs.Levels.{Scope, within, within_list, level_of}
+use Rattle.gh_core.specs.Levels.{Scope, within, within_list, level_of}
 
 abbrev pub Table : Type 0
 Table = List (List ℕ)

@@ -1,5 +1,5 @@
 -- Variables by the number of binders round them.
-use Rattle.std.specs.Prelude.{ℕ, suc, ◌+◌, ◌==◌, map, List, [], ◌∷◌, ◌++◌, length, Option, Some, None, if◌then◌else◌}
+use Rattle.std.specs.Prelude.{ℕ, suc, ◌+◌, ◌==◌, List, [], ◌∷◌, ◌++◌, length, Option, Some, None, if◌then◌else◌}
 
 -- the binders round a part, each a number with its level, which is how many were bound before it; the last is the nearest
 abbrev pub Scope : Type 0
@@ -36,21 +36,3 @@ level_at None count x = count + x
 -- the number of binders that were bound before the variable's own
 abbrev pub level_of : Scope → ℕ → ℕ
 level_of scope x = level_at (bound_at scope x) (length scope) x
-
--- an entry of the table of binders: a number, its level, and the level that its number had before
-abbrev pub Entry : Type 0
-Entry = ℕ × ℕ × Option ℕ
-
-abbrev pub binder_of : Entry → ℕ × ℕ
-binder_of e = (e.0, e.1)
-
-abbrev pub scope_of : List Entry → Scope
-scope_of entries = map binder_of entries
-
-abbrev pub before_of : Entry → Option ℕ
-before_of e = e.2
-
--- the level that each number had in the scope before its entry
-abbrev pub befores : Scope → List Entry → List (Option ℕ)
-befores scope [] = []
-befores scope (e ∷ entries) = bound_at scope e.0 ∷ befores (scope ++ binder_of e ∷ []) entries

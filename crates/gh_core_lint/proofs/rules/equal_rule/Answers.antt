@@ -1,0 +1,15 @@
+use Rattle.std.proofs.Common.{arith}
+use Rattle.gh_core_lint.proofs.Lists.{clash_found, equal_more}
+use Rattle.gh_core_lint.proofs.rules.equal_rule.Goals as goal
+
+pub returns-then-not-same-clause-err : goal.returns-then-not-same-clause-err
+returns-then-not-same-clause-err c =
+    clash_found c.args.wanted.now c.args.found.now c.args.node c.loop-place.place c.index-wanted-place.result c.index-wanted-place-then-not-same.result
+    c.index-found-place.result c.index-found-place-then-not-same.result c.in_ok-share.field-0 c.in_ok-share-2.field-0 (omega arith) c.requires c.loop-place.invariant
+    c.index-wanted-place.is c.index-wanted-place-then-not-same.is c.index-found-place.is c.index-found-place-then-not-same.is c.in_ok-share.ensures c.in_ok-share-2.ensures
+    (λ h. let yes = c.same.ensures.1 h in let no = c.if-not-same.true in absurd (cc))
+
+pub loop-place-preserved : goal.loop-place-preserved
+loop-place-preserved c =
+    equal_more c.args.wanted.now c.args.found.now c.loop-place.place c.index-wanted-place.result c.index-found-place.result (omega arith) c.requires
+    c.index-wanted-place.is c.index-found-place.is (c.same.ensures.0 (let yes = c.if-not-same.false in cc)) c.loop-place.invariant

@@ -1,0 +1,10 @@
+pub mod Data
+pub mod Faults
+pub mod Keys
+pub mod Kinds
+pub mod Programs
+pub mod Scopes
+pub mod Stops
+pub mod Tables
+pub mod Types
+pub mod Branches

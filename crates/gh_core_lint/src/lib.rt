@@ -1,0 +1,17 @@
+//! The check of typed core.
+#![tactic(auto)]
+
+mod binders;
+mod cases;
+mod data;
+mod index;
+mod kinds;
+mod known;
+mod laws;
+mod place;
+mod primitives;
+mod rules;
+mod tables;
+mod types;
+
+pub use laws::{one_first_fault, typed_without_fault};
