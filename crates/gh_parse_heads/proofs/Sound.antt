@@ -28,13 +28,13 @@ use Rattle.gh_tree.proofs.Many.{Taken, AllTaken, many_sound}
 use Rattle.gh_reader.proofs.Sound.{SoundAt, built, expect_sound, close_sound, comma_first, between, between3}
 use Rattle.gh_parse_heads.specs.Header.{is_module, is_where, any_exports, any_exports_by, header}
 
-abbrev any_print : Var → Print
+abbrev pub any_print : Var → Print
 any_print v = print (printed.var v) true
 
 abbrev any_sym_print : Name → Print
 any_sym_print n = print (printed.var_sym n ∷ []) true
 
-abbrev con_print : Con → Print
+abbrev pub con_print : Con → Print
 con_print c = print (printed.con c) (plain_con c)
 
 abbrev con_sym_print : Name → Print
@@ -68,7 +68,7 @@ any_by_sound (k.VarId q n) a ss x rest e = built any_print (any_print (n_Var.Wor
 any_by_sound k.Open a ss x rest e = symbol_any_sound a ss x rest e
 any_by_sound _ a ss x rest e = absurd (cc)
 
-any_var_sound : SoundAt any_print any_var
+pub any_var_sound : SoundAt any_print any_var
 unfolding any_var
 any_var_sound [] x rest e = absurd (cc)
 any_var_sound (s ∷ ss) x rest e = any_by_sound s.kind s.span ss x rest e
@@ -96,7 +96,7 @@ con_by_sound (k.ConId None n) a ss x rest e = built con_print (con_print (n_Con.
 con_by_sound k.Open a ss x rest e = symbol_con_sound a ss x rest e
 con_by_sound _ a ss x rest e = absurd (cc)
 
-con_sound : SoundAt con_print con
+pub con_sound : SoundAt con_print con
 unfolding con
 con_sound [] x rest e = absurd (cc)
 con_sound (s ∷ ss) x rest e = con_by_sound s.kind s.span ss x rest e

@@ -29,12 +29,12 @@ use Rattle.gh_reader.proofs.Sound.{SoundAt, built, only_if, close_sound, close_l
 use Rattle.gh_reader.proofs.NamesSound.{var_print, var_sound, gen_con_sound, con_op_sound}
 
 -- one of two ways
-either_way : {A : Type 0} (print : A → Print) (ss : List Sym) (x : A) (rest : List Sym) (b : Bool) (p q : Option (A × List Sym)) → (p ≡ taken x rest → Taken print ss x rest) → (q ≡ taken x rest → Taken print ss x rest)
+pub either_way : {A : Type 0} (print : A → Print) (ss : List Sym) (x : A) (rest : List Sym) (b : Bool) (p q : Option (A × List Sym)) → (p ≡ taken x rest → Taken print ss x rest) → (q ≡ taken x rest → Taken print ss x rest)
     → cond b p q ≡ taken x rest → Taken print ss x rest
 either_way print ss x rest true p q f g e = f e
 either_way print ss x rest false p q f g e = g e
 
-is_minus : (n : NameId) → (n.0 == MINUS.0) ≡ true → n ≡ MINUS
+pub is_minus : (n : NameId) → (n.0 == MINUS.0) ≡ true → n ≡ MINUS
 is_minus n e = let same : n.0 ≡ MINUS.0 = grind (arith, nat_tests) in λ i. record { 0 = same i }
 
 paren_sound : (a : Span) (us ss : List Sym) (first : Pattern) (x : ArgPattern) (rest : List Sym) → Taken printed.pattern us first ss → paren (at k.Open a ∷ us) a first ss ≡ taken x rest
@@ -74,7 +74,7 @@ signed_sound n a ss x rest e = if_minus (n.0 == MINUS.0) refl e
     if_minus false is e = absurd (cc)
 
 module _ (A : Read ArgPattern) (sound : SoundAt printed.arg_pattern A) where
-  args_sound : (ss : List Sym) (xs : List ArgPattern) (rest : List Sym) → args A ss ≡ taken xs rest → AllTaken printed.arg_pattern ss xs rest
+  pub args_sound : (ss : List Sym) (xs : List ArgPattern) (rest : List Sym) → args A ss ≡ taken xs rest → AllTaken printed.arg_pattern ss xs rest
   unfolding args
   args_sound ss xs rest e = many_sound printed.arg_pattern begins_arg A (λ ss x rest b e. sound ss x rest e) (length ss) ss xs rest e
 
@@ -156,7 +156,7 @@ module _ (A : Read ArgPattern) (sound : SoundAt printed.arg_pattern A) where
   unfolding pat_parts
   parts_sound ss xs rest e = many_sound printed.pat_part comma_next (pat_part A) part_sound (length ss) ss xs rest e
 
-  enclosed_sound : (a : Span) (us ss : List Sym) (first : Pattern) (x : ArgPattern) (rest : List Sym) → Taken printed.pattern us first ss → enclosed A (at k.Open a ∷ us) a first ss ≡ taken x rest
+  pub enclosed_sound : (a : Span) (us ss : List Sym) (first : Pattern) (x : ArgPattern) (rest : List Sym) → Taken printed.pattern us first ss → enclosed A (at k.Open a ∷ us) a first ss ≡ taken x rest
       → Taken printed.arg_pattern (at k.Open a ∷ us) x rest
   unfolding enclosed
   enclosed_sound a us ss first x rest before e =
@@ -200,7 +200,7 @@ module _ (A : Read ArgPattern) (sound : SoundAt printed.arg_pattern A) where
       ap (λ m. at k.OpenList a ∷ m) (between3 ss g.mid inside more i.mid first.flat (between g.mid h.mid (flat_all (map printed.pat_part h.x)) k.CloseList i.x i.mid others.flat last)) in
       built printed.arg_pattern _ start i.mid _ x rest (printed_arg_pattern_list (covered start i.mid) a g.x h.x i.x) i.then flat (spanned_taken start i.mid _ _ flat (and_is first.good others.good))
 
-  as_sound : (us : List Sym) (v : Var) (m : Span) (ss : List Sym) (x : ArgPattern) (rest : List Sym) → Taken var_print us v (at k.At m ∷ ss) → as_end A us v m ss ≡ taken x rest → Taken printed.arg_pattern us x rest
+  pub as_sound : (us : List Sym) (v : Var) (m : Span) (ss : List Sym) (x : ArgPattern) (rest : List Sym) → Taken var_print us v (at k.At m ∷ ss) → as_end A us v m ss ≡ taken x rest → Taken printed.arg_pattern us x rest
   unfolding as_end
   as_sound us v m ss x rest before e =
       let h = bound (A ss) _ x rest e in

@@ -6,4 +6,5 @@ mod patterns;
 #[cfg(test)]
 mod tests;
 
-pub use patterns::{arg, parse_pattern, pattern};
+pub use arguments::begins_arg;
+pub use patterns::{arg, args, next_patterns, operand, parse_pattern, pat_parts, pattern};

@@ -329,6 +329,48 @@ pub fn arg(alloc: Global, tokens: &mut Tokens<'_>, depth: usize) -> Result<Boxed
     .whole_arg(tokens)
 }
 
+/// As many patterns that may be arguments as stand at the front of these tokens, where they nest at most so deep.
+pub fn args(
+    alloc: Global,
+    tokens: &mut Tokens<'_>,
+    depth: usize,
+) -> Result<ListOf<ArgPattern>, Stop>
+    ensures { Reads (spec.args (spec.arg depth) tokens.old) result tokens.new }
+{
+    Reader { alloc, depth, arg }.args(tokens)
+}
+
+/// An operand of a pattern from the front of these tokens, where its arguments nest at most so deep.
+pub fn operand(alloc: Global, tokens: &mut Tokens<'_>, depth: usize) -> Result<PatOperand, Stop>
+    ensures { Reads (spec.operand (spec.arg depth) tokens.old) result tokens.new }
+{
+    Reader { alloc, depth, arg }.operand(tokens)
+}
+
+/// As many constructor operators, each with the operand behind it, as stand at the front of these tokens, where
+/// arguments nest at most so deep.
+pub fn next_patterns(
+    alloc: Global,
+    tokens: &mut Tokens<'_>,
+    depth: usize,
+) -> Result<ListOf<NextPattern>, Stop>
+    ensures { Reads (spec.next_patterns (spec.arg depth) tokens.old) result tokens.new }
+{
+    Reader { alloc, depth, arg }.next_patterns(tokens)
+}
+
+/// As many commas, each with the pattern behind it, as stand at the front of these tokens, where arguments nest at
+/// most so deep.
+pub fn pat_parts(
+    alloc: Global,
+    tokens: &mut Tokens<'_>,
+    depth: usize,
+) -> Result<ListOf<PatPart>, Stop>
+    ensures { Reads (spec.pat_parts (spec.arg depth) tokens.old) result tokens.new }
+{
+    Reader { alloc, depth, arg }.pat_parts(tokens)
+}
+
 /// A pattern from the front of these tokens, where its arguments nest at most so deep.
 pub fn pattern(alloc: Global, tokens: &mut Tokens<'_>, depth: usize) -> Result<Boxed<Pattern>, Stop>
     ensures { Reads (spec.pattern (spec.arg depth) tokens.old) result tokens.new }

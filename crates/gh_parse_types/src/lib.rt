@@ -5,4 +5,4 @@
 mod tests;
 mod types;
 
-pub use types::{parse_type, type_expr};
+pub use types::{arg_type, arg_types, btype, parse_type, type_expr};

@@ -341,6 +341,47 @@ pub fn type_expr(
     .whole(tokens)
 }
 
+/// A type that may be an argument from the front of these tokens, where types in it nest at most so deep.
+pub fn arg_type(alloc: Global, tokens: &mut Tokens<'_>, depth: usize) -> Result<ArgType, Stop>
+    ensures { Reads (spec.arg_type (spec.type_expr depth) tokens.old) result tokens.new }
+{
+    Reader {
+        alloc,
+        depth,
+        type_expr,
+    }
+    .arg_type(tokens)
+}
+
+/// Types that may be arguments from the front of these tokens, as many as there are, where types in each nest at most
+/// so deep.
+pub fn arg_types(
+    alloc: Global,
+    tokens: &mut Tokens<'_>,
+    depth: usize,
+) -> Result<ListOf<ArgType>, Stop>
+    ensures { Reads (spec.arg_types (spec.type_expr depth) tokens.old) result tokens.new }
+{
+    Reader {
+        alloc,
+        depth,
+        type_expr,
+    }
+    .arg_types(tokens)
+}
+
+/// An applied type from the front of these tokens, where types in it nest at most so deep.
+pub fn btype(alloc: Global, tokens: &mut Tokens<'_>, depth: usize) -> Result<BType, Stop>
+    ensures { Reads (spec.btype (spec.type_expr depth) tokens.old) result tokens.new }
+{
+    Reader {
+        alloc,
+        depth,
+        type_expr,
+    }
+    .btype(tokens)
+}
+
 /// The one type whose tokens these are.
 pub fn parse_type(alloc: Global, syms: &[Sym]) -> Result<Boxed<TypeExpr>, Stop>
     ensures { MatchResult result (Spells syms.now) (λ e. Refuses e syms.now) }

@@ -1,7 +1,10 @@
+pub mod Cut
 pub mod Depth
 pub mod Items
+pub mod OneTree
 pub mod Print
 pub mod Syms
+pub mod TreeItems
 pub mod Read
 pub mod ReadTypes
 pub mod ReadExports

@@ -166,7 +166,7 @@ fn top_depth(node: &Top) -> u32
 }
 
 #[tactic(auto, using(crate::proofs::Capped::one_is, crate::proofs::Capped::capped_adds))]
-fn item_depth(node: &Item) -> u32
+pub fn item_depth(node: &Item) -> u32
     ensures { result ≡ capped (spec.item_depth node.now) }
 {
     match node {
@@ -188,7 +188,7 @@ fn next_items_depth(parts: &[NextItem]) -> u32
 }
 
 #[tactic(auto, using(crate::proofs::Capped::zero_is))]
-fn header_depth(node: &Option<Header>) -> u32
+pub fn header_depth(node: &Option<Header>) -> u32
     ensures { result ≡ capped (spec.header_depth node.now) }
 {
     let Some(header) = node else {

@@ -1,7 +1,7 @@
 // Depths that were counted by hand, and texts whose laid tokens are those of trees in `proofs/Examples.antt`.
 use crate::{
     Aexp, BlockMark, Decl, Exp, FunLhs, Item, Kind, ModuleTree, Name, NextItem, Operand,
-    OperandList, Rhs, Sym, Top, Var, Where, syms_of,
+    OperandList, Rhs, Sym, Top, Var, Where, header_depth, header_end, item_end, syms_of,
 };
 use gh_base::{ListOf, NameId, Names, Span};
 use gh_layout::lay;
@@ -61,6 +61,8 @@ fn a_variable_has_depth_eight(rt: HostRuntime) -> Result<(), Fail> {
     let alloc = rt.alloc();
     let tree = file(alloc, alone(alloc, variable(201), ListOf::new(alloc))?)?;
     assert_eq!(rt; tree.depth(), 8);
+    assert_eq!(rt; tree.first.depth(), 8);
+    assert_eq!(rt; header_depth(&tree.header), 0);
     Ok(())
 }
 
@@ -193,4 +195,17 @@ fn alternatives_are_laid_out(rt: HostRuntime) -> Result<(), Fail> {
 #[test]
 fn an_empty_file_is_laid_out(rt: HostRuntime) -> Result<(), Fail> {
     agrees(&rt, rt.alloc(), b"", "<{0-0 <}0-0")
+}
+
+// `module M where <{ x = 1 <; y = case x of <{ C -> 2 <} <}`: three tokens, then three, then ten.
+#[test]
+fn items_end_at_the_marks_of_the_body(rt: HostRuntime) -> Result<(), Fail> {
+    let text = b"module M where\nx=1\ny=case x of\n  C->2\n";
+    let laid = laid_out(&rt, rt.alloc(), text)?;
+    let syms = laid.as_slice();
+    assert_eq!(rt; syms.len(), 19);
+    assert_eq!(rt; header_end(syms), 3);
+    assert_eq!(rt; item_end(&syms[4..]), 3);
+    assert_eq!(rt; item_end(&syms[8..]), 10);
+    Ok(())
 }

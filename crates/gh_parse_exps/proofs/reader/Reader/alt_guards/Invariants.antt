@@ -1,0 +1,10 @@
+use Rattle.std.proofs.Common.{◌≡◌, ◌-◌}
+use Rattle.gh_parse_exps.specs.Exps.{knot}
+use Rattle.gh_parse_exps.specs.Exps.{alt_guards, alt_guard}
+use Rattle.gh_parse_exps.specs.Marks.{bar_next}
+use Rattle.gh_tree.specs.Read.{many}
+use Rattle.gh_tree.proofs.Loops.{with_front}
+use Rattle.gh_parse_exps.proofs.reader.Reader.alt_guards.Given as goal
+
+abbrev pub invariant-loop-turn : goal.invariant-loop-turn
+invariant-loop-turn g l = (alt_guards (knot l.self.depth)) l.fn.tokens ≡ with_front l.found (many bar_next (alt_guard (knot l.self.depth)) (l._turn-end - l._turn) l.tokens)

@@ -1,0 +1,11 @@
+pub mod CompleteConstrs
+pub mod CompleteGenerics
+pub mod CompleteTops
+pub mod DeclLooks
+pub mod Fields
+pub mod Shapes
+pub mod SoundConstrs
+pub mod SoundGenerics
+pub mod SoundTops
+pub mod TypeLooks
+pub mod Whole

@@ -1,0 +1,3 @@
+pub mod Generics
+pub mod Tops
+pub mod Whole

@@ -1,0 +1,12 @@
+pub mod AllRead
+pub mod Bind
+pub mod Causes
+pub mod CompleteFile
+pub mod Covered
+pub mod Ends
+pub mod Found
+pub mod Loop
+pub mod ReadBack
+pub mod SoundFile
+pub mod Tops
+pub mod Whole
