@@ -1,16 +1,16 @@
 -- Names that lead back to themselves run for ever.
-use Rattle.std.proofs.Common.{◌≡◌, ℕ, zero, suc, ◌+◌, ◌-◌, ◌*◌, ◌≤◌, Bool, true, false, if◌then◌else◌, cond, ◌==◌, List, [], ◌∷◌, map, Option, Some, None, refl, sym, ap, ◌∙◌, arith, subst}
+use Rattle.std.proofs.Common.{◌≡◌, ℕ, zero, suc, ◌+◌, ◌-◌, ◌*◌, ◌≤◌, Bool, true, false, if◌then◌else◌, cond, ◌==◌, List, [], ◌∷◌, map, Option, Some, None, refl, sym, ap, ◌∙◌, arith}
 use Rattle.gh_base.specs.declared.fixed.TheConstants.{MAIN}
 use Rattle.gh_base.specs.declared.names.NameId.{NameId}
 use Rattle.gh_bindings.specs.declared.binding.Operand.{Operand}
 use Rattle.gh_bindings.specs.declared.binding.Operand.TheVariants as operand
 use Rattle.gh_bindings.specs.declared.binding.Binding.{Binding}
 use Rattle.gh_bindings.specs.Meaning.{main_value}
-use Rattle.gh_bindings.proofs.Plain.{plain_def, plain_program, joined_plain, main_plain, runs_plain}
+use Rattle.gh_bindings.proofs.Plain.{plain_def, plain_program, joined_plain, runs_plain}
 use Rattle.gh_core.specs.declared.terms.CoreName.TheVariants.{Plain}
 use Rattle.gh_core.specs.Terms.{Term, glob}
-use Rattle.gh_core.specs.Reduce.{State, running, demand, defined, unfold_global, reduce, reductions}
-use Rattle.gh_core.specs.Run.{Seen, seen, start}
+use Rattle.gh_core.specs.Reduce.{State, demand, defined, unfold_global, reduce, reductions}
+use Rattle.gh_core.specs.Run.{seen}
 use Rattle.gh_driver.specs.Core.{core_seen}
 use Rattle.gh_driver.specs.Cycles.{alone, next_name, and_then, name_after, CyclesRunForEver}
 

@@ -2,6 +2,7 @@ pub mod Appended
 pub mod Cycles
 pub mod Fronts
 pub mod Keeping
+pub mod LimitsNamed
 pub mod Links
 pub mod Plain
 pub mod Prefixes

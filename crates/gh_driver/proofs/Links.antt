@@ -1,5 +1,5 @@
 -- The first refusal of several.
-use Rattle.std.proofs.Common.{◌≡◌, Option, Some, None, sym, ap, ◌∙◌}
+use Rattle.std.proofs.Common.{◌≡◌, Option, Some, None, ap}
 use Rattle.gh_base.specs.declared.Refusal.{Refusal}
 use Rattle.gh_driver.specs.Scope.{first_of}
 

@@ -1,30 +1,38 @@
 -- What a file's bytes are, in terms of its tokens: the tokens are those of the reading, there are no more of them than
 -- bytes, and the names of a refusal are of the table.
-use Rattle.std.proofs.Common.{◌≡◌, ℕ, zero, suc, ◌+◌, ◌-◌, ◌<◌, ◌≤◌, ◌^◌, Bool, true, false, List, [], ◌∷◌, ◌++◌, length, take, drop, map, Option, Some, None, Result, Ok, Err, refl, sym, ap, ◌∙◌, subst, arith, if◌then◌else◌}
-use Rattle.std.specs.Prelude.{nat_lt, ◌==◌, option_map, slice_get}
+use Rattle.std.proofs.Common.{◌≡◌, ℕ, zero, suc, ◌<◌, ◌≤◌, ◌^◌, Bool, true, false, List, [], ◌∷◌, length, take, drop, Option, Some, None, Result, Ok, Err, refl, ap, ◌∙◌, subst, arith, if◌then◌else◌}
+use Rattle.std.specs.Prelude.{nat_lt, ◌==◌, option_map}
 use Rattle.std.specs.Option.{option_map_or}
 use Rattle.std.specs.Str.Lossy.{utf8_valid_len}
 use Rattle.gh_base.specs.declared.NameId.{NameId}
+use Rattle.gh_base.specs.declared.refusal.Fault.TheVariants as fault
 use Rattle.gh_base.specs.declared.Refusal.{Refusal}
 use Rattle.gh_base.specs.declared.Refusal.TheVariants as refusal
 use Rattle.gh_base.specs.declared.Span.{Span}
 use Rattle.gh_base.specs.declared.fixed.TheConstants.{MAIN}
 use Rattle.gh_base.specs.Ids.{text_in}
-use Rattle.gh_base.specs.Table.{place_of}
 use Rattle.gh_bindings.specs.declared.binding.Operand.{Operand}
 use Rattle.gh_bindings.specs.declared.binding.Operand.TheVariants as operand
 use Rattle.gh_bindings.specs.declared.binding.Binding.{Binding}
-use Rattle.gh_first_form.specs.Named.{OperandPlaced, OperandsPlaced, BindingPlaced, BindingsPlaced, ParsedPlaced}
-use Rattle.gh_first_form.specs.Parse.{has_name, parse_of}
-use Rattle.gh_first_form.specs.declared.program.Parsed.{Parsed}
-use Rattle.gh_first_form.specs.declared.program.Parsed.TheVariants as parsed
-use Rattle.gh_first_form.proofs.Placed.{parse_placed}
+use Rattle.gh_limits.specs.Limits.{limits_of}
+use Rattle.gh_parser.specs.Faults.{BodyFault, FaultWithin, header_has_no_tree, header_is_too_deep, header_is_tree, item_has_no_tree, item_is_too_deep, item_is_tree}
+use Rattle.gh_parser.specs.Parse.{parsed_of}
+use Rattle.gh_parser.proofs.Whole.{tree_given, cause_given}
+use Rattle.gh_tree.specs.Items.{TopItem, items_of}
+use Rattle.gh_tree.specs.Print.{flat}
+use Rattle.gh_tree.specs.Syms.{syms_of}
+use Rattle.gh_tree.specs.declared.module_tree.ModuleTree.{ModuleTree}
+use Rattle.gh_tree_form.specs.Form.{has_name, form_of}
+use Rattle.gh_tree_form.specs.Named.{OperandPlaced, OperandsPlaced, BindingsPlaced, ParsedPlaced}
+use Rattle.gh_tree_form.specs.declared.program.Parsed.{Parsed}
+use Rattle.gh_tree_form.specs.declared.program.Parsed.TheVariants as parsed
+use Rattle.gh_tree_form.proofs.Placed.{names_placed}
 use Rattle.gh_layout.specs.Layout.{Piece as Laying_piece, layout, laid, treated, finished, marked, span_at, place_of as place_of_piece}
 use Rattle.gh_layout.specs.Entries.{lowest}
 use Rattle.gh_layout.specs.declared.laying.LaidToken.{LaidToken}
 use Rattle.gh_layout.specs.declared.laying.Laying.{Laying}
 use Rattle.gh_layout.specs.declared.entry.Owner.TheVariants as owner
-use Rattle.gh_lexer.specs.Lexeme.{Piece, Named, Word, Mark, Number, Letter, Text, Lexeme}
+use Rattle.gh_lexer.specs.Lexeme.{Piece, Lexeme}
 use Rattle.gh_lexer.specs.Reading.{Valued, Where, Lexemes, named, number, letter_meant, letter, text, valued, refusal_of, onto, on_value, on_scan, read_from, read, reading, beginning, lexeme_at, skipped, passed}
 use Rattle.gh_lexer.specs.Scan.{scan_at}
 use Rattle.gh_lexer.specs.Seen.{piece_in, lexeme_in, lexemes_in, IsPlaced, IsPlacedIfSome, IdsPlaced, AllPlaced}
@@ -40,11 +48,12 @@ use Rattle.gh_lexer.specs.declared.scan.Wrong.TheVariants as wrong
 use Rattle.gh_lexer.specs.declared.token.Token.{Token}
 use Rattle.gh_lexer.specs.declared.token.TokenKind.{TokenKind}
 use Rattle.gh_lexer.specs.declared.token.TokenKind.TheVariants as kind
-use Rattle.gh_lexer.specs.Literal.{letter_at, integer_of, spelled}
+use Rattle.gh_lexer.specs.Literal.{letter_at, integer_of}
 use Rattle.gh_driver.specs.declared.check.Checked.{Checked}
 use Rattle.gh_driver.specs.declared.check.Checked.TheVariants as checked
-use Rattle.gh_driver.specs.Check.{id_at, id_of, kind_by, token_by, tokens_by, checked_of, linked_of, laid_of, on_layout, on_parsed, on_reading, scoped, nowhere, RefusalNamed}
+use Rattle.gh_driver.specs.Check.{id_at, id_of, kind_by, token_by, tokens_by, linked_of, laid_of, limited_of, formed_of, on_form, on_limits, on_tree, on_layout, on_reading, scoped, RefusalNamed}
 use Rattle.gh_driver.specs.Lines.{Table, IsNamed}
+use Rattle.gh_driver.proofs.LimitsNamed.{MaybeNamed, limits_named}
 use Rattle.gh_driver.specs.Scope.{unknown_use, first_of, first_in, first_unknown}
 
 -- the tokens of the table are those of the reading
@@ -240,10 +249,6 @@ layout_named table ts = laying_named table ts (marked (Some owner.File) 0 ts) (r
 
 -- those of later phases have names of the tokens
 
-abbrev MaybeNamed : Table → Option Refusal → Type 0
-MaybeNamed table None = Unit {0}
-MaybeNamed table (Some r) = IsNamed table r
-
 unknown_if : (table : Table) (b : Bool) (n : NameId) (s : Span) → IsPlaced table n → MaybeNamed table (if b then None else Some (refusal.UnknownName s n))
 unfolding IsNamed
 unknown_if table true n s p = tt
@@ -278,13 +283,41 @@ linked_named : (table : Table) (bs : List Binding) → BindingsPlaced table bs �
 unfolding linked_of
 linked_named table bs p = main_if table (has_name bs MAIN) (scoped bs (first_unknown bs bs)) (scoped_named table bs (first_unknown bs bs) (unknown_named table bs bs p))
 
-parsed_named : (table : Table) (p : Parsed) → ParsedPlaced table p → RefusalNamed table (on_parsed p)
+form_named : (table : Table) (p : Parsed) → ParsedPlaced table p → RefusalNamed table (on_form p)
 unfolding IsNamed
-parsed_named table (parsed.Bad s) h = tt
-parsed_named table (parsed.Program bs) h = linked_named table bs h
+form_named table (parsed.Bad s) h = tt
+form_named table (parsed.Program bs) h = linked_named table bs h
+
+body_fault_named : (table : Table) (limit : ℕ) (tops : Bool) (is : List TopItem) (r : Refusal) → BodyFault limit tops is r → IsNamed table r
+unfolding IsNamed
+body_fault_named table limit tops is r (item_has_no_tree t i js none) = tt
+body_fault_named table limit tops is r (item_is_too_deep t i js x is_x deep) = tt
+body_fault_named table limit tops is r (item_is_tree t i js x q is_x few later) = body_fault_named table limit _ js q later
+
+fault_named : (table : Table) (limit : ℕ) (is : List TopItem) (r : Refusal) → FaultWithin limit is r → IsNamed table r
+unfolding IsNamed
+fault_named table limit is r (header_has_no_tree i js none) = tt
+fault_named table limit is r (header_is_too_deep i js h is_h deep) = tt
+fault_named table limit is r (header_is_tree i js h q is_h few later) = body_fault_named table limit _ js q later
+
+formed_named : (table : Table) (ts : List Token) (xs : List LaidToken) (t : ModuleTree) → AllPlaced table ts → flat t ≡ syms_of ts xs → RefusalNamed table (formed_of t)
+unfolding formed_of
+formed_named table ts xs t p same = form_named table (form_of t) (names_placed table ts xs t p same)
+
+on_limits_named : (table : Table) (r : Option Refusal) (t : ModuleTree) → MaybeNamed table r → RefusalNamed table (formed_of t) → RefusalNamed table (on_limits r t)
+on_limits_named table None t p q = q
+on_limits_named table (Some r) t p q = p
+
+limited_named : (table : Table) (ts : List Token) (xs : List LaidToken) (t : ModuleTree) → AllPlaced table ts → flat t ≡ syms_of ts xs → RefusalNamed table (limited_of t)
+unfolding limited_of
+limited_named table ts xs t p same = on_limits_named table (limits_of t) t (limits_named table t) (formed_named table ts xs t p same)
+
+on_tree_named : (table : Table) (ts : List Token) (xs : List LaidToken) (r : Result ModuleTree Refusal) → parsed_of (syms_of ts xs) ≡ r → AllPlaced table ts → RefusalNamed table (on_tree r)
+on_tree_named table ts xs (Ok t) is p = limited_named table ts xs t p (tree_given ts xs (Ok t) is).0.1
+on_tree_named table ts xs (Err r) is p = fault_named table 2000 (items_of ts xs) r (cause_given ts xs (Err (fault.Refused r)) r is refl)
 
 on_layout_named : (table : Table) (ts : List Token) (r : Result (List LaidToken) Refusal) → AllPlaced table ts → LaidNamed table r → RefusalNamed table (on_layout ts r)
-on_layout_named table ts (Ok xs) p h = parsed_named table (parse_of ts xs) (parse_placed table ts xs p)
+on_layout_named table ts (Ok xs) p h = on_tree_named table ts xs (parsed_of (syms_of ts xs)) refl p
 on_layout_named table ts (Err r) p h = h
 
 pub laid_named : (table : Table) (ts : List Token) → AllPlaced table ts → RefusalNamed table (laid_of ts)

@@ -1,5 +1,5 @@
 -- A run that is made piece by piece, what each piece prints being put away.
-use Rattle.std.proofs.Common.{◌≡◌, ℕ, zero, suc, ◌+◌, ◌-◌, ◌≤◌, List, [], ◌∷◌, ◌++◌, Option, refl, sym, ap, ◌∙◌, subst, arith, append_assoc, append-nil}
+use Rattle.std.proofs.Common.{◌≡◌, ℕ, ◌+◌, ◌-◌, ◌≤◌, List, [], ◌++◌, Option, refl, sym, ap, ◌∙◌, subst, arith, append_assoc, append-nil}
 use Rattle.gh_base.specs.declared.place.Span.{Span}
 use Rattle.gh_core.specs.declared.erased.Erased.{Erased}
 use Rattle.gh_core.specs.Primitives.{Cause}

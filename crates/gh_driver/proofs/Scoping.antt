@@ -10,10 +10,10 @@ use Rattle.gh_base.specs.declared.Span.{Span}
 use Rattle.gh_bindings.specs.declared.binding.Operand.{Operand}
 use Rattle.gh_bindings.specs.declared.binding.Operand.TheVariants as operand
 use Rattle.gh_bindings.specs.declared.binding.Binding.{Binding}
-use Rattle.gh_first_form.specs.Grammar.{AreOthers, AreDifferent, IsModule}
-use Rattle.gh_first_form.specs.Parse.{has_name}
-use Rattle.gh_first_form.proofs.Forward.{module_is}
-use Rattle.gh_first_form.proofs.Names.{no_true, ids_same, ids_differ}
+use Rattle.gh_tree_form.specs.Form.{has_name}
+use Rattle.gh_tree_form.specs.Grammar.{AreOthers, AreDifferent, IsFirstForm}
+use Rattle.gh_tree_form.proofs.Forward.{form_is}
+use Rattle.gh_tree_form.proofs.Names.{no_true, ids_same, ids_differ}
 use Rattle.gh_driver.specs.declared.check.Checked.{Checked}
 use Rattle.gh_driver.specs.declared.check.Checked.TheVariants as checked
 use Rattle.gh_driver.specs.Check.{linked_of, scoped}
@@ -138,4 +138,4 @@ good_program bs a h = (
 )
 
 pub scope_is_exact : ScopeIsExact
-scope_is_exact ts xs bs is = let m : IsModule ts xs bs = module_is ts xs bs is in (accepted bs, good_program bs m.differ)
+scope_is_exact t bs is = let m : IsFirstForm t bs = form_is t bs is in (accepted bs, good_program bs m.differ)

@@ -6,8 +6,8 @@ use Rattle.gh_bindings.proofs.Keeping.{core_starts}
 use Rattle.gh_core.specs.declared.erased.Erased.{Erased}
 use Rattle.gh_core.specs.Erase.{erased_program}
 use Rattle.gh_core.specs.Reading.{term_of}
-use Rattle.gh_core.specs.Reduce.{State, running, reductions}
-use Rattle.gh_core.specs.Run.{Seen, seen, core_main, program_of, start}
+use Rattle.gh_core.specs.Reduce.{running, reductions}
+use Rattle.gh_core.specs.Run.{seen, core_main, start}
 
 no_reduction : (c : Erased) → core_main c 0 ≡ seen (start (term_of c.main))
 unfolding reductions

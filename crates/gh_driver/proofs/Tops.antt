@@ -1,5 +1,5 @@
 -- The answers of the top call, outcome by outcome.
-use Rattle.std.proofs.Common.{◌≡◌, ℕ, Bool, true, false, IsTrue, List, [], ◌∷◌, take, Option, Some, ◌⊎◌, refl, sym, ap, inl, inr, subst, if◌then◌else◌}
+use Rattle.std.proofs.Common.{◌≡◌, ℕ, IsTrue, List, [], take, Option, Some, ◌⊎◌, refl, sym, ap, inl, inr, subst}
 use Rattle.gh_base.specs.declared.Refusal.{Refusal}
 use Rattle.gh_outside.specs.Outside.{Rose, Reads, Appends, AppendsFront}
 use Rattle.gh_driver.specs.declared.status.Status.{Status}

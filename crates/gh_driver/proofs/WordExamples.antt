@@ -1,15 +1,12 @@
 -- Small cases of the words and of the lines on err, worked out by hand.
-use Rattle.std.proofs.Common.{◌≡◌, ℕ, true, false, List, [], ◌∷◌, ◌++◌, Option, Some, None, refl}
+use Rattle.std.proofs.Common.{◌≡◌, ℕ, false, List, [], ◌∷◌, ◌++◌, Option, Some, None, refl}
 use Rattle.std.specs.Fmt.{digits}
 use Rattle.std.specs.Prelude.{codes}
 use Rattle.gh_base.specs.declared.Refusal.TheVariants as refusal
-use Rattle.gh_base.specs.declared.NameId.{NameId}
-use Rattle.gh_base.specs.declared.Span.{Span}
 use Rattle.gh_driver.specs.declared.words.Words.{Words}
 use Rattle.gh_driver.specs.declared.words.Words.TheVariants as meaning
-use Rattle.gh_driver.specs.declared.source.Source.{Source}
 use Rattle.gh_driver.specs.Words.{split_of, meaning_of_split, steps_of, sample_of}
-use Rattle.gh_driver.specs.Lines.{refusal_line_of, variant_of, fields_of, usage_line}
+use Rattle.gh_driver.specs.Lines.{refusal_line_of, variant_of, fields_of}
 
 -- words that are text have the meaning that their options and positionals have
 meaning_of_words : List (List ℕ) → Option Words

@@ -7,9 +7,6 @@ use Rattle.gh_base.specs.declared.Refusal.{Refusal}
 use Rattle.gh_base.specs.declared.Refusal.TheVariants as refusal
 use Rattle.gh_base.specs.Table.{place_of}
 use Rattle.gh_bindings.specs.declared.binding.Binding.{Binding}
-use Rattle.gh_first_form.specs.Parse.{has_name, parse_of}
-use Rattle.gh_first_form.specs.declared.program.Parsed.{Parsed}
-use Rattle.gh_first_form.specs.declared.program.Parsed.TheVariants as parsed
 use Rattle.gh_layout.specs.Layout.{layout}
 use Rattle.gh_layout.specs.declared.laying.LaidToken.{LaidToken}
 use Rattle.gh_lexer.specs.Lexeme.{Piece, Named, Word, Mark, Number, Letter, Text, Lexeme}
@@ -17,6 +14,13 @@ use Rattle.gh_lexer.specs.Reading.{reading}
 use Rattle.gh_lexer.specs.declared.token.Token.{Token}
 use Rattle.gh_lexer.specs.declared.token.TokenKind.{TokenKind}
 use Rattle.gh_lexer.specs.declared.token.TokenKind.TheVariants as kind
+use Rattle.gh_limits.specs.Limits.{limits_of}
+use Rattle.gh_parser.specs.Parse.{parsed_of}
+use Rattle.gh_tree.specs.Syms.{syms_of}
+use Rattle.gh_tree.specs.declared.module_tree.ModuleTree.{ModuleTree}
+use Rattle.gh_tree_form.specs.Form.{has_name, form_of}
+use Rattle.gh_tree_form.specs.declared.program.Parsed.{Parsed}
+use Rattle.gh_tree_form.specs.declared.program.Parsed.TheVariants as parsed
 use Rattle.gh_driver.specs.declared.check.Checked.{Checked}
 use Rattle.gh_driver.specs.declared.check.Checked.TheVariants as checked
 use Rattle.gh_driver.specs.Lines.{Table, IsNamed}
@@ -53,12 +57,27 @@ scoped bs (Some r) = checked.Refused r
 unfoldable pub linked_of : List Binding → Checked
 linked_of bs = if has_name bs MAIN then scoped bs (first_unknown bs bs) else checked.Refused refusal.NoMain
 
-abbrev pub on_parsed : Parsed → Checked
-on_parsed (parsed.Bad s) = checked.Refused (refusal.NoParse s)
-on_parsed (parsed.Program bs) = linked_of bs
+-- what is built today: bindings of names to strings and names that `++` joins; the first item of another form is refused
+abbrev pub on_form : Parsed → Checked
+on_form (parsed.Bad s) = checked.Refused (refusal.NoParse s)
+on_form (parsed.Program bs) = linked_of bs
+
+unfoldable pub formed_of : ModuleTree → Checked
+formed_of t = on_form (form_of t)
+
+abbrev pub on_limits : Option Refusal → ModuleTree → Checked
+on_limits None t = formed_of t
+on_limits (Some r) t = checked.Refused r
+
+unfoldable pub limited_of : ModuleTree → Checked
+limited_of t = on_limits (limits_of t) t
+
+abbrev pub on_tree : Result ModuleTree Refusal → Checked
+on_tree (Ok t) = limited_of t
+on_tree (Err r) = checked.Refused r
 
 abbrev pub on_layout : List Token → Result (List LaidToken) Refusal → Checked
-on_layout ts (Ok xs) = on_parsed (parse_of ts xs)
+on_layout ts (Ok xs) = on_tree (parsed_of (syms_of ts xs))
 on_layout ts (Err r) = checked.Refused r
 
 unfoldable pub laid_of : List Token → Checked
@@ -71,7 +90,7 @@ on_reading table (Err r) = checked.Refused r
 abbrev pub nowhere : Span
 nowhere = record { file = 1; from = 0; to = 0 }
 
--- in the order of the phases: the file's length, its tokens, its layout, its items, `main`, and the names that are used
+-- in the order of the phases: the file's length, its tokens, its layout, its tree, the limits, the form that is built, `main`, and the names that are used
 unfoldable pub checked_of : Table → List ℕ → Checked
 checked_of table b = if nat_lt 1048576 (length b) then checked.Refused (refusal.FileTooLong nowhere) else on_reading table (reading 1 b)
 

@@ -1,5 +1,5 @@
 -- The lines on err.
-use Rattle.std.specs.Prelude.{ℕ, ◌-◌, ◌==◌, ◌<◌, ◌≤◌, Bool, if◌then◌else◌, List, [], ◌∷◌, ◌++◌, take, length, slice_index_or, Option, Some, None, codes, decimal}
+use Rattle.std.specs.Prelude.{ℕ, ◌-◌, ◌==◌, ◌<◌, Bool, if◌then◌else◌, List, [], ◌∷◌, ◌++◌, take, length, slice_index_or, Option, Some, None, codes, decimal}
 use Rattle.gh_base.specs.declared.NameId.{NameId}
 use Rattle.gh_base.specs.declared.Origin.{Origin}
 use Rattle.gh_base.specs.declared.Span.{Span}

@@ -7,8 +7,8 @@ use Rattle.gh_base.specs.declared.Refusal.TheVariants as refusal
 use Rattle.gh_bindings.specs.declared.binding.Operand.{Operand}
 use Rattle.gh_bindings.specs.declared.binding.Operand.TheVariants as operand
 use Rattle.gh_bindings.specs.declared.binding.Binding.{Binding}
-use Rattle.gh_first_form.specs.Grammar.{AreOthers}
-use Rattle.gh_first_form.specs.Parse.{has_name}
+use Rattle.gh_tree_form.specs.Form.{has_name}
+use Rattle.gh_tree_form.specs.Grammar.{AreOthers}
 
 -- the refusal of an operand that is a name without a binding
 abbrev pub unknown_use : List Binding → Operand → Option Refusal

@@ -1,12 +1,15 @@
 // From bytes to a program or a refusal.
-ghost use Rattle.std.specs.Prelude.{◌≡◌, ◌<◌, ◌^◌, length, IfOk};
-ghost use Rattle.gh_driver.specs.Check.{checked_of, laid_of, RefusalNamed};
+ghost use Rattle.std.specs.Prelude.{◌≡◌, ◌<◌, ◌^◌, length, IfOk, Ok};
+ghost use Rattle.gh_driver.specs.Check.{checked_of, formed_of, laid_of, limited_of, on_layout, RefusalNamed};
 
 use crate::link::link;
 use gh_base::{Fault, ListOf, Names, NoMemory, Refusal, Span};
-use gh_first_form::{Bindings, Parsed, parse};
-use gh_layout::lay;
+use gh_layout::{LaidToken, lay};
 use gh_lexer::{Token, lex};
+use gh_limits::limits;
+use gh_parser::parse;
+use gh_tree::ModuleTree;
+use gh_tree_form::{Bindings, Parsed, form};
 use std::alloc::Global;
 
 /// A refusal, or a program.
@@ -24,6 +27,45 @@ const NOWHERE: Span = Span {
     to: 0,
 };
 
+// What a tree is that passes no limit: a program of the form that is built, or the first item of another form.
+#[tactic(auto, unfolding(crate::specs::Check::formed_of))]
+fn check_form(alloc: Global, tree: &ModuleTree) -> Result<Checked, NoMemory>
+    ensures { IfOk result (λ c. c ≡ formed_of tree.now) }
+{
+    match form(alloc, tree) {
+        Err(_) => Err(NoMemory),
+        Ok(Parsed::Bad(span)) => Ok(Checked::Refused(Refusal::NoParse { span })),
+        Ok(Parsed::Program(bindings)) => Ok(link(bindings)),
+    }
+}
+
+// What the tree of a file is.
+#[tactic(auto, unfolding(crate::specs::Check::limited_of))]
+fn check_tree(alloc: Global, tree: &ModuleTree) -> Result<Checked, NoMemory>
+    ensures { IfOk result (λ c. c ≡ limited_of tree.now) }
+{
+    if let Some(refusal) = limits(tree) {
+        return Ok(Checked::Refused(refusal));
+    }
+    Ok(check_form(alloc, tree)?)
+}
+
+// What the laid tokens of a file are.
+fn check_laid(
+    alloc: Global,
+    tokens: &ListOf<Token>,
+    laid: &ListOf<LaidToken>,
+) -> Result<Checked, NoMemory>
+    requires { length tokens.now < 2 ^ 32 }
+    ensures { IfOk result (λ c. c ≡ on_layout tokens.now (Ok laid.now)) }
+{
+    match parse(alloc, tokens, laid) {
+        Err(Fault::NoMemory) => Err(NoMemory),
+        Err(Fault::Refused(refusal)) => Ok(Checked::Refused(refusal)),
+        Ok(tree) => Ok(check_tree(alloc, &tree)?),
+    }
+}
+
 // What the tokens of a file are.
 #[tactic(auto, unfolding(crate::specs::Check::laid_of))]
 fn check_tokens(alloc: Global, tokens: &ListOf<Token>) -> Result<Checked, NoMemory>
@@ -33,11 +75,7 @@ fn check_tokens(alloc: Global, tokens: &ListOf<Token>) -> Result<Checked, NoMemo
     match lay(alloc, tokens) {
         Err(Fault::NoMemory) => Err(NoMemory),
         Err(Fault::Refused(refusal)) => Ok(Checked::Refused(refusal)),
-        Ok(laid) => match parse(alloc, tokens.as_slice(), laid.as_slice()) {
-            Err(_) => Err(NoMemory),
-            Ok(Parsed::Bad(span)) => Ok(Checked::Refused(Refusal::NoParse { span })),
-            Ok(Parsed::Program(bindings)) => Ok(link(bindings)),
-        },
+        Ok(laid) => Ok(check_laid(alloc, tokens, &laid)?),
     }
 }
 

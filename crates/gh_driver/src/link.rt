@@ -7,7 +7,7 @@ use crate::check::Checked;
 use gh_base::Refusal;
 use gh_base::fixed::MAIN;
 use gh_bindings::Operand;
-use gh_first_form::Bindings;
+use gh_tree_form::Bindings;
 
 // The refusal of an operand that is a name without a binding.
 fn unknown_use(bindings: &Bindings, operand: &Operand) -> Option<Refusal>

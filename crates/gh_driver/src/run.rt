@@ -14,9 +14,9 @@ ghost use Rattle.gh_outside.specs.Outside.{Rose, Appends, AppendsFront};
 use gh_base::NoMemory;
 use gh_bindings::core_of;
 use gh_core::{Erased, erase_core};
-use gh_first_form::Bindings;
 use gh_machine::{Machine, Turn};
 use gh_outside::{Out, OutFault};
+use gh_tree_form::Bindings;
 use std::alloc::Global;
 
 /// Why a run is given up.

@@ -122,7 +122,7 @@ fn each_budget_prints_its_prefix(rt: HostRuntime) -> Result<(), Fail> {
 }
 
 // Files that are refused, with the line of their refusal.
-const REFUSED: [(&[u8], &[u8]); 26] = [
+const REFUSED: [(&[u8], &[u8]); 33] = [
     (b"module Main where { }", b"genhs: 38 NoMain\n"),
     (b"module Main where { ; ; }", b"genhs: 38 NoMain\n"),
     (b"", b"genhs: 38 NoMain\n"),
@@ -182,7 +182,52 @@ const REFUSED: [(&[u8], &[u8]); 26] = [
     ),
     (b"a = \"\"\nb = a\nc = mai", b"genhs: 38 NoMain\n"),
     (b"a = x\na = \"s\"", b"a.hs:2:1: 9 NoParse\n"),
+    (
+        b"data T a b c d e f g h i = T\nmain = \"\"",
+        b"a.hs:1:1: 40 LimitPassed parameters\n",
+    ),
+    (
+        b"f x = x\ndata T a b c d e f g h i = T\nmain = \"\"",
+        b"a.hs:2:1: 40 LimitPassed parameters\n",
+    ),
+    (
+        b"data T a b c d e f g h i = T\nmain = = \"\"",
+        b"a.hs:2:1: 9 NoParse\n",
+    ),
+    (
+        b"main = \"\"\ndata T a b c d e f g h = T\nf x = x",
+        b"a.hs:2:1: 9 NoParse\n",
+    ),
+    (b"main = \"\"\nf = \\x -> x", b"a.hs:2:1: 9 NoParse\n"),
+    (b"main = \"\"\nimport A", b"a.hs:2:1: 9 NoParse\n"),
+    (b"import A\nmain = x", b"a.hs:1:1: 9 NoParse\n"),
 ];
+
+// A binding to a string between so many parentheses.
+fn nested(alloc: Global, pairs: usize) -> Result<Bytes, Fail> {
+    let mut file = ListOf::from_slice(alloc, b"main = ")?;
+    for _ in 0..pairs {
+        file.push(b'(')?;
+    }
+    file.extend_from_slice(b"\"\"")?;
+    for _ in 0..pairs {
+        file.push(b')')?;
+    }
+    Ok(file)
+}
+
+#[test]
+fn trees_may_be_2000_deep(rt: HostRuntime) -> Result<(), Fail> {
+    let words: [&[u8]; 2] = [b"check", b"a.hs"];
+    let most = nested(rt.alloc(), 498)?;
+    let whole = call(rt.alloc(), &words, b"a.hs", most, &[])?;
+    assert_eq!(rt; whole.err.bytes(), b"a.hs:1:1: 9 NoParse\n".as_slice());
+    let more = nested(rt.alloc(), 499)?;
+    let deep = call(rt.alloc(), &words, b"a.hs", more, &[])?;
+    assert_eq!(rt; deep.code, 1);
+    assert_eq!(rt; deep.err.bytes(), b"a.hs:1:1: 10 TooDeep\n".as_slice());
+    Ok(())
+}
 
 #[test]
 fn refusals_have_their_lines(rt: HostRuntime) -> Result<(), Fail> {

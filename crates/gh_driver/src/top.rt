@@ -12,9 +12,9 @@ use crate::source::Source;
 use crate::status::Status;
 use crate::words::{Words, WordsFault, read_words};
 use gh_base::{Bytes, ListOf, Names, NoMemory, Refusal};
-use gh_first_form::Bindings;
 use gh_machine::Turn;
 use gh_outside::{Out, OutFault, Shelf, ShelfFault};
+use gh_tree_form::Bindings;
 use std::alloc::Global;
 
 const USAGE: &[u8] = b"usage: genhs check FILES, core FILES, run [--steps N] FILES, or sample N\n";

@@ -1,5 +1,4 @@
-use Rattle.std.proofs.Common.{◌≡◌, ◌≤◌, ◌-◌, ℕ, Option, List, rules, arith, refl, sym, ap, ◌∙◌, subst}
-use Rattle.gh_core.specs.Reduce.{running, State}
+use Rattle.std.proofs.Common.{◌≡◌, ◌-◌, ℕ, arith, refl, sym, ap, ◌∙◌, subst}
 use Rattle.gh_core.specs.Run.{program_of}
 use Rattle.gh_machine.specs.Values.{status_of}
 use Rattle.gh_driver.proofs.Runs.{IsMade, made_none, piece_made, piece_front, over_status, over_put, ended_over, failed_over}

@@ -1,0 +1,10 @@
+pub mod BoundAt
+pub mod Examples
+pub mod Few
+pub mod Found
+pub mod InsideAt
+pub mod Loops
+pub mod SameAt
+pub mod Sames
+pub mod Seen
+pub mod TopAt

@@ -1,0 +1,6 @@
+pub mod Bound
+pub mod Inside
+pub mod Limits
+pub mod Places
+pub mod SameTypes
+pub mod Seen

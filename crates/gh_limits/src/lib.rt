@@ -1,0 +1,14 @@
+//! The first limit that the tree of a file passes.
+#![tactic(auto)]
+
+mod bound;
+mod clauses;
+mod first;
+mod inside;
+mod places;
+mod same_types;
+#[cfg(test)]
+mod tests;
+mod tops;
+
+pub use first::limits;

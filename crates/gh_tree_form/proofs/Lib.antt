@@ -1,0 +1,9 @@
+pub mod Backward
+pub mod Exact
+pub mod Examples
+pub mod Forward
+pub mod Listed
+pub mod Names
+pub mod Placed
+pub mod Refusals
+pub mod Shapes
