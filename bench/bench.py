@@ -8,6 +8,8 @@ import time
 top, work = sys.argv[1], sys.argv[2]
 GENHS = os.path.join(top, "crates/gh_cli/out/gh_cli")
 BENCH = os.path.join(top, "crates/gh_bench/out/gh_bench")
+MACHINE = os.path.join(top, "crates/bench_machine/out/bench_machine")
+PARSER = os.path.join(top, "crates/bench_parser/out/bench_parser")
 
 
 def best(command):
@@ -61,6 +63,69 @@ for name, make in (("identifiers", identifiers), ("comments", comments), ("one s
 table("lexing and layout, blocks", "bytes", KIB, blocks, lambda path, size: [BENCH, "lay", path])
 
 
+def declarations(size):
+    return (b"f x = g x 1\n" * (size // 12))[: size // 12 * 12]
+
+
+def operands(size):
+    return b"x = " + b" + ".join([b"y"] * size)
+
+
+def elements(size):
+    return b"x = [" + b", ".join([b"y"] * size) + b"]"
+
+
+table("lexing, layout and parsing, declarations", "bytes", KIB, declarations, lambda path, size: [PARSER, path])
+TENS = [12500 * 2 ** k for k in range(4)]
+table("lexing, layout and parsing, one expression", "operands", TENS, operands, lambda path, size: [PARSER, path])
+table("lexing, layout and parsing, one list", "elements", TENS, elements, lambda path, size: [PARSER, path])
+
+# The status of a file of one item that nests so deep: 0 where it is read, 10 where it is too deep.
+NESTED = {
+    "parentheses": lambda n: "x = " + "(" * n + "y" + ")" * n,
+    "lists": lambda n: "x = " + "[" * n + "y" + "]" * n,
+    "left sections": lambda n: "x = " + "(" * n + "y" + " +)" * n,
+    "right sections": lambda n: "x = " + "(+ " * n + "y" + ")" * n,
+    "types": lambda n: "x :: " + "(" * n + "A" + ")" * n,
+    "patterns": lambda n: "f " + "(" * n + "x" + ")" * n + " = y",
+    "left sides": lambda n: "(" * n + "f x" + ") y" * n + " = y",
+    "lambdas": lambda n: "x = " + "\\a -> " * n + "y",
+    "if, in the last part": lambda n: "x = " + "if a then b else " * n + "y",
+    "if, in the test": lambda n: "x = " + "if " * n + "a" + " then b else c" * n,
+    "let, in the body": lambda n: "x = " + "let { a = b } in " * n + "y",
+    "let, in a binding": lambda n: "x = " + "let { a = " * n + "y" + " } in z" * n,
+    "case, of a case": lambda n: "x = " + "case " * n + "a" + " of { b -> c }" * n,
+    "case, in an alternative": lambda n: "x = " + "case a of { b -> " * n + "c" + " }" * n,
+    "case, behind a guard": lambda n: "x = " + "case a of { b | c -> " * n + "c" + " }" * n,
+    "where": lambda n: "x = y where { " * n + "a = b" + " }" * n,
+}
+
+
+def status(make, depth):
+    path = os.path.join(work, "nested.hs")
+    with open(path, "w") as file:
+        file.write(make(depth) + "\n")
+    return subprocess.run([PARSER, path], stdout=subprocess.DEVNULL, stderr=subprocess.DEVNULL, check=False).returncode
+
+
+def deepest_answer(make):
+    """The greatest number of levels, by bisection, for which the program answers."""
+    low, high = 1, 65536
+    while low + 1 < high:
+        middle = (low + high) // 2
+        if status(make, middle) in (0, 9, 10):
+            low = middle
+        else:
+            high = middle
+    return low
+
+
+print("levels inside one another: the status at 2,000, and the most levels that are answered")
+for name, make in NESTED.items():
+    print(f"  {name:<26} {status(make, 2000):>4}  {deepest_answer(make):>6}")
+print()
+
+
 def program(size):
     return b'module Main where { main = "' + b"x" * size + b'" }'
 
@@ -102,3 +167,9 @@ for steps in (250000, 500000, 1000000, 2000000):
     run = [GENHS, "run", "--steps", str(steps), endless]
     ms = best(run)
     print(f"  {steps:>9} reductions  {ms:9.1f} ms   {steps / ms / 1000:6.2f} million a second   {peak(run) / 2 ** 20:8.1f} MiB")
+print()
+
+print("the machine, 2000000 reductions: a counting loop, a list of 100000 cells, a list printed without end, deep unevaluated terms")
+for shape in ("loop", "list", "print", "deep"):
+    ms = best([MACHINE, shape])
+    print(f"  {shape:>9}  {ms:9.1f} ms   {2000 / ms:6.2f} million a second   {peak([MACHINE, shape]) / 2 ** 20:8.1f} MiB")
