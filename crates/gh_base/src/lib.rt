@@ -14,6 +14,3 @@ pub use names::{NameId, Names};
 pub use no_memory::NoMemory;
 pub use place::{Origin, Space, Span, TyCon};
 pub use refusal::{Fault, Limit, Refusal};
-
-#[cfg(test)]
-mod tests;

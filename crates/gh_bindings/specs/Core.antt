@@ -4,8 +4,10 @@ use Rattle.gh_base.specs.declared.fixed.TheConstants.{PRELUDE, MAIN, LIST}
 use Rattle.gh_base.specs.declared.place.Origin.{Origin}
 use Rattle.gh_base.specs.declared.place.Space.TheVariants.{Types}
 use Rattle.gh_base.specs.declared.place.TyCon.TheVariants.{Named, Arrow, Char}
+use Rattle.gh_typeterm.specs.declared.decl.DeclCon.{DeclCon}
 use Rattle.gh_typeterm.specs.declared.decl.DeclData.{DeclData}
 use Rattle.gh_typeterm.specs.declared.kind.Kind.TheVariants.{Star}
+use Rattle.gh_typeterm.specs.declared.ty.TyNode.{TyNode}
 use Rattle.gh_typeterm.specs.declared.ty.TyNode.TheVariants as node
 use Rattle.gh_core.specs.Primitives.{nil, cons}
 use Rattle.gh_core.specs.declared.types.CoreType.{CoreType}
@@ -26,16 +28,16 @@ use Rattle.gh_bindings.specs.Meaning.{append, main_value}
 abbrev pub list_name : Origin
 list_name = record { «module» = PRELUDE; space = Types; name = LIST }
 
+-- the fields of a cell: an element, and a list
+abbrev pub cell_fields : List TyNode
+cell_fields = node.Var 0 ∷ node.App (node.Con (Named list_name)) (node.Var 0) ∷ []
+
+abbrev pub list_constructors : List DeclCon
+list_constructors = record { origin = nil; fields = [] } ∷ record { origin = cons; fields = cell_fields } ∷ []
+
 -- data List a = Nil | Cons a (List a)
 abbrev pub list_decl : DeclData
-list_decl = record {
-  origin = list_name;
-  is_newtype = false;
-  params = Star ∷ [];
-  constructors =
-      record { origin = nil; fields = [] }
-      ∷ record { origin = cons; fields = node.Var 0 ∷ node.App (node.Con (Named list_name)) (node.Var 0) ∷ [] } ∷ [];
-}
+list_decl = record { origin = list_name; is_newtype = false; params = Star ∷ []; constructors = list_constructors }
 
 abbrev pub list_of : CoreType → CoreType
 list_of ty = type.App (type.Con (Named list_name)) ty

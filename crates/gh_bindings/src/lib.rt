@@ -6,8 +6,6 @@ mod binding;
 mod laws;
 mod names;
 mod program;
-#[cfg(test)]
-mod tests;
 mod types;
 
 pub use binding::{Binding, Operand};

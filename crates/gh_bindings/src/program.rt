@@ -10,6 +10,7 @@ use gh_base::fixed::MAIN;
 use gh_base::{ListOf, NoMemory};
 use gh_core::{CoreName, CoreProgram, CoreTerm, Def};
 use gh_typeterm::DeclData;
+use sqlite_items::Boxed;
 use std::alloc::Global;
 
 /// The core of a program of bindings: the datatype of lists; the definition of the Prelude's `++`, a function of two
@@ -48,21 +49,22 @@ fn definitions(alloc: Global, bindings: &[Binding]) -> Result<ListOf<Def>, NoMem
 fn binding_def(alloc: Global, binding: &Binding) -> Result<Def, NoMemory>
     ensures { IfOk result (λ def. def ≡ binding_def binding.now) }
 {
+    let ty = list_of(alloc, character())?;
     let term = joined_term(alloc, binding.operands.as_slice())?;
     Ok(Def {
         name: CoreName::Plain(main_value(binding.name)),
-        ty: list_of(alloc, character())?,
-        term,
+        ty,
+        term: term.into_inner(),
     })
 }
 
 // The operands joined from the right; none stands for the empty string.
-fn joined_term(alloc: Global, operands: &[Operand]) -> Result<CoreTerm, NoMemory>
+fn joined_term(alloc: Global, operands: &[Operand]) -> Result<Boxed<CoreTerm>, NoMemory>
     ensures { IfOk result (λ term. term ≡ joined_term operands.now) }
 {
     let count = operands.len();
     if count == 0 {
-        return Ok(CoreTerm::Str(ListOf::new(alloc)));
+        return Ok(Boxed::new(alloc, CoreTerm::Str(ListOf::new(alloc)))?);
     }
     let mut term = operand_term(alloc, &operands[count - 1])?;
     for at in (0..count - 1).rev() {
@@ -72,11 +74,12 @@ fn joined_term(alloc: Global, operands: &[Operand]) -> Result<CoreTerm, NoMemory
     Ok(term)
 }
 
-fn operand_term(alloc: Global, operand: &Operand) -> Result<CoreTerm, NoMemory>
+fn operand_term(alloc: Global, operand: &Operand) -> Result<Boxed<CoreTerm>, NoMemory>
     ensures { IfOk result (λ term. term ≡ operand_term operand.now) }
 {
-    match operand {
-        Operand::Name(name, _) => Ok(CoreTerm::Global(CoreName::Plain(main_value(*name)))),
-        Operand::Text(chars) => Ok(CoreTerm::Str(ListOf::from_slice(alloc, chars.as_slice())?)),
-    }
+    let term = match operand {
+        Operand::Name(name, _) => CoreTerm::Global(CoreName::Plain(main_value(*name))),
+        Operand::Text(chars) => CoreTerm::Str(ListOf::from_slice(alloc, chars.as_slice())?),
+    };
+    Ok(Boxed::new(alloc, term)?)
 }

@@ -1,6 +1,6 @@
 // The types that the core of a program speaks of, and the datatype of lists.
 ghost use Rattle.std.specs.Prelude.{◌≡◌, IfOk};
-ghost use Rattle.gh_bindings.specs.Core.{append_type, character, elements, function_of, list_decl, list_of};
+ghost use Rattle.gh_bindings.specs.Core.{append_type, cell_fields, character, elements, function_of, list_constructors, list_decl, list_of};
 
 use crate::names::{list_name, prelude_value};
 use gh_base::fixed::{CONS, NIL};
@@ -32,23 +32,60 @@ pub fn elements(alloc: Global) -> Result<CoreType, NoMemory>
     list_of(alloc, CoreType::Var(0))
 }
 
+// The type of lists of the elements that the type variable 0 stands for, on its own.
+fn boxed_elements(alloc: Global) -> Result<Boxed<CoreType>, NoMemory>
+    ensures { IfOk result (λ ty. ty ≡ elements) }
+{
+    Ok(Boxed::new(alloc, elements(alloc)?)?)
+}
+
 // The type of functions from one type to another.
-fn function_of(alloc: Global, from: CoreType, to: CoreType) -> Result<CoreType, NoMemory>
+fn function_of(
+    alloc: Global,
+    from: Boxed<CoreType>,
+    to: Boxed<CoreType>,
+) -> Result<Boxed<CoreType>, NoMemory>
     ensures { IfOk result (λ ty. ty ≡ function_of from to) }
 {
     let arrow = Boxed::new(alloc, CoreType::Con(TyCon::Arrow))?;
-    let taken = CoreType::App(arrow, Boxed::new(alloc, from)?);
-    let head = Boxed::new(alloc, taken)?;
-    Ok(CoreType::App(head, Boxed::new(alloc, to)?))
+    let taken = Boxed::new(alloc, CoreType::App(arrow, from))?;
+    Ok(Boxed::new(alloc, CoreType::App(taken, to))?)
 }
 
 /// `forall a. List a -> List a -> List a`.
 pub fn append_type(alloc: Global) -> Result<CoreType, NoMemory>
     ensures { IfOk result (λ ty. ty ≡ append_type) }
 {
-    let second = function_of(alloc, elements(alloc)?, elements(alloc)?)?;
-    let first = function_of(alloc, elements(alloc)?, second)?;
-    Ok(CoreType::Forall(0, Kind::Star, Boxed::new(alloc, first)?))
+    let second = function_of(alloc, boxed_elements(alloc)?, boxed_elements(alloc)?)?;
+    let first = function_of(alloc, boxed_elements(alloc)?, second)?;
+    Ok(CoreType::Forall(0, Kind::Star, first))
+}
+
+// The fields of a cell: an element, and a list.
+fn cell_fields(alloc: Global) -> Result<ListOf<Ty>, NoMemory>
+    ensures { IfOk result (λ fields. fields ≡ cell_fields) }
+{
+    let mut fields = ListOf::new(alloc);
+    fields.push(Ty::var(alloc, 0)?)?;
+    let list = Ty::con(alloc, TyCon::Named(list_name()))?;
+    fields.push(Ty::app(alloc, list, Ty::var(alloc, 0)?)?)?;
+    Ok(fields)
+}
+
+// The constructors of lists.
+fn list_constructors(alloc: Global) -> Result<ListOf<DeclCon>, NoMemory>
+    ensures { IfOk result (λ constructors. constructors ≡ list_constructors) }
+{
+    let mut constructors = ListOf::new(alloc);
+    constructors.push(DeclCon {
+        origin: prelude_value(NIL),
+        fields: ListOf::new(alloc),
+    })?;
+    constructors.push(DeclCon {
+        origin: prelude_value(CONS),
+        fields: cell_fields(alloc)?,
+    })?;
+    Ok(constructors)
 }
 
 /// `data List a = Nil | Cons a (List a)`.
@@ -57,23 +94,10 @@ pub fn list_decl(alloc: Global) -> Result<DeclData, NoMemory>
 {
     let mut params = ListOf::new(alloc);
     params.push(Kind::Star)?;
-    let mut fields = ListOf::new(alloc);
-    fields.push(Ty::var(alloc, 0)?)?;
-    let list = Ty::con(alloc, TyCon::Named(list_name()))?;
-    fields.push(Ty::app(alloc, list, Ty::var(alloc, 0)?)?)?;
-    let mut constructors = ListOf::new(alloc);
-    constructors.push(DeclCon {
-        origin: prelude_value(NIL),
-        fields: ListOf::new(alloc),
-    })?;
-    constructors.push(DeclCon {
-        origin: prelude_value(CONS),
-        fields,
-    })?;
     Ok(DeclData {
         origin: list_name(),
         is_newtype: false,
         params,
-        constructors,
+        constructors: list_constructors(alloc)?,
     })
 }

@@ -5,8 +5,6 @@ mod erase;
 mod erased;
 mod same;
 mod terms;
-#[cfg(test)]
-mod tests;
 mod types;
 
 pub use erase::erase_core;

@@ -18,6 +18,3 @@ pub use source::Source;
 pub use status::Status;
 pub use top::{Mode, genhs};
 pub use words::{Words, WordsFault, read_words};
-
-#[cfg(test)]
-mod tests;

@@ -10,8 +10,6 @@ mod names;
 mod patterns;
 mod signatures;
 mod terms;
-#[cfg(test)]
-mod tests;
 
 pub use erasing::erase;
 pub use functions::{Dependency, Extension, GenFun};

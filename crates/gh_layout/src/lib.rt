@@ -7,8 +7,6 @@ mod layout;
 mod pile;
 mod role;
 mod stack;
-#[cfg(test)]
-mod tests;
 
 pub use laying::LaidToken;
 pub use layout::lay;

@@ -12,6 +12,3 @@ mod token;
 
 pub use lexer::lex;
 pub use token::{NameClass, Token, TokenKind};
-
-#[cfg(test)]
-mod tests;

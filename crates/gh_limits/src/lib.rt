@@ -7,8 +7,6 @@ mod first;
 mod inside;
 mod places;
 mod same_types;
-#[cfg(test)]
-mod tests;
 mod tops;
 
 pub use first::limits;

@@ -12,6 +12,3 @@ pub use host::{HostOut, HostShelf};
 pub use mem_out::MemOut;
 pub use mem_shelf::MemShelf;
 pub use outside::{Out, OutFault, Shelf, ShelfFault};
-
-#[cfg(test)]
-mod tests;

@@ -14,8 +14,6 @@ mod operands;
 mod ops;
 mod reader;
 mod signatures;
-#[cfg(test)]
-mod tests;
 
 pub use exps::{decl, decls, exp, parse_exp, rhs};
 pub use locals::word;

@@ -7,8 +7,6 @@ mod operands;
 mod operators;
 mod reader;
 mod sides;
-#[cfg(test)]
-mod tests;
 
 pub use laws::has_one_left;
 pub use reader::{left, parse_left};

@@ -3,8 +3,6 @@
 
 mod arguments;
 mod patterns;
-#[cfg(test)]
-mod tests;
 
 pub use arguments::begins_arg;
 pub use patterns::{arg, args, next_patterns, operand, parse_pattern, pat_parts, pattern};

@@ -5,8 +5,6 @@ mod constrs;
 mod generics;
 mod laws;
 mod looks;
-#[cfg(test)]
-mod tests;
 mod tops;
 mod words;
 

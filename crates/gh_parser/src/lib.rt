@@ -6,8 +6,6 @@ mod items;
 mod laws;
 mod readers;
 mod refusals;
-#[cfg(test)]
-mod tests;
 
 pub use file::parse;
 pub use laws::{has_one_tree, parses_every_tree};

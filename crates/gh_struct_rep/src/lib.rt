@@ -3,8 +3,6 @@
 
 mod injections;
 mod nesting;
-#[cfg(test)]
-mod tests;
 
 pub use injections::paths;
 pub use nesting::rep;

@@ -14,8 +14,6 @@ mod patterns;
 pub mod program;
 mod symbol;
 mod syms;
-#[cfg(test)]
-mod tests;
 mod tops;
 mod types;
 

@@ -7,8 +7,6 @@ mod laws;
 mod operand;
 mod program;
 mod span;
-#[cfg(test)]
-mod tests;
 
 pub use bindings::Bindings;
 pub use laws::{

@@ -1,7 +1,7 @@
 // Texts in which each character is a token: what each is read as.
-use crate::{Left, parse_left};
 use gh_base::fixed::MINUS;
 use gh_base::{ListOf, NameId, Span};
+use gh_parse_lefts::{Left, parse_left};
 use gh_reader::Stop;
 use gh_tree::{Kind, Sym};
 use std::alloc::Global;

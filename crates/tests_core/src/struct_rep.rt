@@ -1,7 +1,7 @@
 // The worked cases.
-use crate::{paths, rep};
 use gh_base::fixed::{PRELUDE, PROD, SUM, UNIT};
 use gh_base::{ListOf, NameId, NoMemory, Origin, Space, TyCon};
+use gh_struct_rep::{paths, rep};
 use gh_typeterm::{DeclCon, DeclData, Kind, Ty, same};
 use std::alloc::Global;
 use std::test::Fail;

@@ -1,11 +1,11 @@
 // Depths that were counted by hand, and texts whose laid tokens are those of trees in `proofs/Examples.antt`.
-use crate::{
-    Aexp, BlockMark, Decl, Exp, FunLhs, Item, Kind, ModuleTree, Name, NextItem, Operand,
-    OperandList, Rhs, Sym, Top, Var, Where, header_depth, header_end, item_end, syms_of,
-};
 use gh_base::{ListOf, NameId, Names, Span};
 use gh_layout::lay;
 use gh_lexer::lex;
+use gh_tree::{
+    Aexp, BlockMark, Decl, Exp, FunLhs, Item, Kind, ModuleTree, Name, NextItem, Operand,
+    OperandList, Rhs, Sym, Top, Var, Where, header_depth, header_end, item_end, syms_of,
+};
 use sqlite_items::Boxed;
 use std::alloc::{AllocError, Global};
 use std::process::Abort;

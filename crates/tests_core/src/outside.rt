@@ -1,6 +1,6 @@
 // Shelves and outputs in memory and of the host, with failing calls.
-use crate::{HostOut, HostShelf, MemOut, MemShelf, Out, OutFault, Shelf, ShelfFault};
 use gh_base::{Bytes, ListOf};
+use gh_outside::{HostOut, HostShelf, MemOut, MemShelf, Out, OutFault, Shelf, ShelfFault};
 use std::alloc::Global;
 use std::test::Fail;
 

@@ -1,6 +1,6 @@
 // One call of each public function, with ample memory.
-use crate::fixed::{FIXED, MAIN, WHERE};
-use crate::{Bytes, ListOf, NameId, Names, Origin, Refusal, Space, Span, TyCon};
+use gh_base::fixed::{FIXED, MAIN, WHERE};
+use gh_base::{Bytes, ListOf, NameId, Names, Origin, Refusal, Space, Span, TyCon};
 use std::test::Fail;
 
 #[test]

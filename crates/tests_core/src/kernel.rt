@@ -1,6 +1,8 @@
 // One call with ample memory, on a term with every form of node.
-use crate::{Lit, LocalBinding, Pattern, PatternNode, Row, Signed, Term, TermNode, VarName, erase};
 use gh_base::{ListOf, NameId, NoMemory, Origin, Space, Span, TyCon};
+use gh_kernel::{
+    Lit, LocalBinding, Pattern, PatternNode, Row, Signed, Term, TermNode, VarName, erase,
+};
 use gh_typeterm::{Ty, same};
 use sqlite_items::Boxed;
 use std::alloc::Global;

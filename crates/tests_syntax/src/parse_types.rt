@@ -1,6 +1,6 @@
 // Nested types, and one that is no type.
-use crate::parse_type;
 use gh_base::{ListOf, NameId, Span};
+use gh_parse_types::parse_type;
 use gh_tree::{Kind, Sym};
 use std::alloc::Global;
 use std::process::Abort;

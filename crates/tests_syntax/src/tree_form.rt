@@ -1,5 +1,4 @@
 // Small files, their trees written out by hand. Each token of a file has one byte, so its place is that of its byte.
-use crate::{Bindings, Parsed, form};
 use gh_base::fixed::{APPEND, COMPOSE, MAIN, MAIN_MODULE, PRELUDE};
 use gh_base::{ListOf, NameId, NoMemory, Span};
 use gh_bindings::Operand;
@@ -7,6 +6,7 @@ use gh_tree::{
     Aexp, BlockMark, Decl, Exp, FunLhs, Header, Import, Item, ModuleTree, Name, NextItem,
     NextOperand, Op, OperandList, Rhs, Top, Var, VarOp, Where,
 };
+use gh_tree_form::{Bindings, Parsed, form};
 use sqlite_items::Boxed;
 use std::alloc::Global;
 use std::process::Abort;

@@ -1,6 +1,6 @@
 // Small files against their tokens, worked out by hand from the Report's lexical structure.
-use super::{NameClass, Token, TokenKind, lex};
 use gh_base::{Fault, ListOf, Names, NoMemory, Span};
+use gh_lexer::{NameClass, Token, TokenKind, lex};
 use std::alloc::Global;
 use std::process::Abort;
 use std::test::Fail;

@@ -1,6 +1,6 @@
 // Each limit at its number and one more.
-use crate::limits;
 use gh_base::{Limit, ListOf, NameId, Refusal, Span};
+use gh_limits::limits;
 use gh_tree::{
     Aexp, ArgPattern, ArgType, BType, BlockMark, Con, Constr, Context, Decl, DeclItem, Decls, Dep,
     Deps, Exp, FunLhs, GenVars, Item, ModuleTree, Name, NextConstr, NextDep, NextItem, Operand,

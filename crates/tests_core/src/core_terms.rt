@@ -1,9 +1,9 @@
 // Small cases, worked out by hand.
-use crate::{
+use gh_base::{ListOf, NameId, NoMemory, Origin, Space, Span, TyCon};
+use gh_core::{
     CoreAlt, CoreName, CoreProgram, CoreTerm, CoreType, Def, ErasedAlt, ErasedTerm, erase_core,
     same_type,
 };
-use gh_base::{ListOf, NameId, NoMemory, Origin, Space, Span, TyCon};
 use gh_typeterm::{DeclCon, DeclData, Kind};
 use sqlite_items::Boxed;
 use std::alloc::Global;

@@ -1,7 +1,7 @@
 // Texts in which each character is a token: which of them are expressions.
-use crate::parse_exp;
 use gh_base::fixed::MINUS;
 use gh_base::{ListOf, NameId, Span};
+use gh_parse_exps::parse_exp;
 use gh_reader::Stop;
 use gh_tree::{Kind, Sym};
 use std::alloc::Global;

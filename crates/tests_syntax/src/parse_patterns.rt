@@ -1,6 +1,6 @@
 // Nested patterns, and one that is no pattern.
-use crate::parse_pattern;
 use gh_base::{ListOf, NameId, Span};
+use gh_parse_patterns::parse_pattern;
 use gh_tree::{Kind, Sym};
 use std::alloc::Global;
 use std::test::Fail;

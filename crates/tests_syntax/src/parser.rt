@@ -1,8 +1,8 @@
 // Texts that are read, and texts that are refused, each with the item that is.
-use crate::parse;
 use gh_base::{Fault, ListOf, Names, Refusal};
 use gh_layout::lay;
 use gh_lexer::lex;
+use gh_parser::parse;
 use gh_tree::Item;
 use std::alloc::Global;
 use std::process::Abort;

@@ -1,7 +1,7 @@
 // Texts in which each character is a token: which form of declaration each is read as.
-use crate::parse_top;
 use gh_base::fixed::EXTENDS;
 use gh_base::{ListOf, NameId, Span};
+use gh_parse_tops::parse_top;
 use gh_reader::Stop;
 use gh_tree::{Kind, Sym, Top};
 use std::alloc::Global;

@@ -1,6 +1,6 @@
 // The top call over shelves and outputs in memory.
-use crate::genhs;
 use gh_base::{Bytes, ListOf, Names};
+use gh_driver::genhs;
 use gh_outside::{MemOut, MemShelf};
 use std::alloc::Global;
 use std::test::Fail;

@@ -1,8 +1,7 @@
 // Layouts that were worked by hand. Beside the lines of a file stand the laid tokens: a number is a token of the file,
 // and `B`, `S` and `E` are an inserted `{`, `;` and `}`. `bad` and `open` are refusals at the token of that place.
-use crate::laying::LaidToken;
-use crate::layout::lay;
 use gh_base::{FIXED, Fault, ListOf, NameId, Refusal, Span};
+use gh_layout::{LaidToken, lay};
 use gh_lexer::{NameClass, Token, TokenKind};
 use std::alloc::{AllocError, Global};
 use std::process::Abort;

@@ -1,7 +1,7 @@
 // A small program, worked out by hand.
-use crate::{Binding, Operand, core_of};
 use gh_base::fixed::{APPEND, MAIN, MAIN_MODULE, PRELUDE};
 use gh_base::{ListOf, NameId, NoMemory, Origin, Space, Span, TyCon};
+use gh_bindings::{Binding, Operand, core_of};
 use gh_core::{CoreName, CoreTerm, CoreType};
 use std::alloc::Global;
 use std::process::Abort;

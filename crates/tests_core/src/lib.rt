@@ -1,0 +1,15 @@
+//! Tests of the crates on names, type terms, the kernel and core, each over its public calls.
+#![tactic(auto)]
+
+#[cfg(test)]
+mod base;
+#[cfg(test)]
+mod bindings;
+#[cfg(test)]
+mod core_terms;
+#[cfg(test)]
+mod kernel;
+#[cfg(test)]
+mod outside;
+#[cfg(test)]
+mod struct_rep;

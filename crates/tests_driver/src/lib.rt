@@ -1,0 +1,5 @@
+//! Tests of `genhs`, over shelves and outputs in memory.
+#![tactic(auto)]
+
+#[cfg(test)]
+mod driver;
