@@ -5,8 +5,6 @@ mod binders;
 mod laws;
 mod program;
 mod terms;
-#[cfg(test)]
-mod tests;
 mod types;
 
 pub use laws::{kinds_by_text, same_types_by_text, types_by_text};

@@ -6,6 +6,3 @@ mod stack;
 
 pub use item::{ArrangeFault, Arranged, Fixity, Item, Side};
 pub use stack::{arrange, has_one_tree};
-
-#[cfg(test)]
-mod tests;

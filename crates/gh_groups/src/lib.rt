@@ -44,6 +44,3 @@ pub fn groups(
 pub fn has_one_grouping()
     ensures { HasOneGrouping }
 {}
-
-#[cfg(test)]
-mod tests;

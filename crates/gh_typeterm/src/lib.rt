@@ -5,8 +5,6 @@ mod decl;
 mod kind;
 mod shared;
 mod terms;
-#[cfg(test)]
-mod tests;
 mod ty;
 mod walking;
 

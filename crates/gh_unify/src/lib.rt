@@ -3,10 +3,6 @@
 
 mod solving;
 mod table;
-#[cfg(test)]
-mod tests;
-#[cfg(test)]
-mod trial;
 mod unifier;
 
 pub use unifier::{Unifier, UnifyFault};

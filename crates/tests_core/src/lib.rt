@@ -8,8 +8,20 @@ mod bindings;
 #[cfg(test)]
 mod core_terms;
 #[cfg(test)]
+mod core_text;
+#[cfg(test)]
+mod fixity;
+#[cfg(test)]
+mod groups;
+#[cfg(test)]
 mod kernel;
 #[cfg(test)]
 mod outside;
 #[cfg(test)]
 mod struct_rep;
+#[cfg(test)]
+mod typeterm;
+#[cfg(test)]
+mod unify;
+#[cfg(test)]
+mod unify_trial;

@@ -1,11 +1,11 @@
 // Small cases, worked out by hand.
 ghost use Rattle.gh_typeterm.specs.Terms.{vars_step};
 
-use crate::{
+use gh_base::{ListOf, NameId, NoMemory, Origin, Space, TyCon};
+use gh_typeterm::{
     DeclCon, DeclData, Kind, Ty, TyNode, TypeWalk, copy_decl, copy_kind, same, same_kind,
     share_terms, size, substitute, walk,
 };
-use gh_base::{ListOf, NameId, NoMemory, Origin, Space, TyCon};
 use sqlite_items::Boxed;
 use std::alloc::Global;
 use std::process::Abort;

@@ -1,5 +1,5 @@
 use Rattle.gh_groups.specs.Grouping.{AreBelow}
-use Rattle.gh_groups.proofs.tests.large.Given as goal
+use Rattle.tests_core.proofs.groups.large.Given as goal
 
 abbrev pub invariant-loop-at : goal.invariant-loop-at
 invariant-loop-at l = AreBelow l.count l.edges

@@ -2,10 +2,10 @@
 ghost use Rattle.std.specs.Prelude.{◌<◌, ◌≤◌, IfOk, OnOk, map};
 ghost use Rattle.gh_core_text.specs.Needs.{needs_all, needs_alt, needs_decl, needs_origin, needs_program, needs_term, needs_type};
 
-use crate::core_text;
 use gh_base::fixed::{CON, ERROR, FALSE, ID, MAIN_MODULE, MAYBE, PRELUDE, TRUE};
 use gh_base::{Bytes, ListOf, NameId, Names, NoMemory, Origin, Space, Span, TyCon};
 use gh_core::{CoreAlt, CoreName, CoreProgram, CoreTerm, CoreType, Def};
+use gh_core_text::core_text;
 use gh_typeterm::{DeclCon, DeclData, Kind, Ty};
 use sqlite_items::Boxed;
 use std::alloc::Global;
@@ -174,7 +174,7 @@ const TEXT: &[u8] =
     b"(core 1\n(newtype Main.Con ((t0 *) (t1 (=> * *))) (Main.True (t1 t0)))\n(data Main.Maybe () (Main.False) (Main.True (-> Prelude.Int Prelude.Char) Prelude.Int))\n(def Main.id (forall (t0 *) (-> t0 t0))\n (tyapp (tylam (t0 *) (lam (v0 t0) (letrec ((v1 t0 v2) (v2 Prelude.Int v1)) (case v0 Prelude.Int (alt Main.True v3 v4 v4) (int -1 v1) (char 98 v2) (else (stop 1 2 30 (any *))))))) Prelude.Char))\n(main Main.id))\n";
 
 #[test]
-#[tactic(auto, using(crate::proofs::FixedCount::fixed_count))]
+#[tactic(auto, using(gh_core_text::proofs::FixedCount::fixed_count))]
 fn writes_a_program(rt: HostRuntime) -> Result<(), Fail> {
     let alloc = rt.alloc();
     let names = Names::new(alloc)?;
@@ -183,7 +183,7 @@ fn writes_a_program(rt: HostRuntime) -> Result<(), Fail> {
     Ok(())
 }
 
-#[tactic(auto, using(crate::proofs::FixedCount::fixed_count))]
+#[tactic(auto, using(gh_core_text::proofs::FixedCount::fixed_count))]
 fn main_text(alloc: Global, main: CoreTerm) -> Result<Bytes, NoMemory>
     requires { needs_term main ≤ 128 }
 {

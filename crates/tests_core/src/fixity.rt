@@ -2,8 +2,8 @@
 ghost use Rattle.std.specs.Prelude.{IsTrue, OnOk, IfOk};
 ghost use Rattle.gh_fixity.specs.Arrangement.{is_list};
 
-use crate::{ArrangeFault, Arranged, Fixity, Item, Side, arrange, has_one_tree};
 use gh_base::{ListOf, NoMemory, Span};
+use gh_fixity::{ArrangeFault, Arranged, Fixity, Item, Side, arrange, has_one_tree};
 use std::alloc::Global;
 use std::test::Fail;
 
@@ -251,7 +251,7 @@ fn has_tree(fixities: &[Fixity], above: Option<(Fixity, bool)>) -> bool {
 }
 
 // One more operator and its operand.
-#[tactic(auto, using(crate::proofs::Grammar::longer_list))]
+#[tactic(auto, using(gh_fixity::proofs::Grammar::longer_list))]
 fn put_operator(items: &mut ListOf<Item>, fixity: Fixity) -> Result<(), NoMemory>
     requires { IsTrue (is_list items.old) }
     ensures { OnOk result (IsTrue (is_list items.new)) }

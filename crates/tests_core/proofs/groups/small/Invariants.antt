@@ -1,5 +1,5 @@
 use Rattle.gh_groups.specs.Grouping.{AreBelow}
-use Rattle.gh_groups.proofs.tests.small.Given as goal
+use Rattle.tests_core.proofs.groups.small.Given as goal
 
 abbrev pub invariant-loop-from : goal.invariant-loop-from
 invariant-loop-from l = AreBelow 4 l.edges

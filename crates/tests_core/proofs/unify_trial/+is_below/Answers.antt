@@ -1,6 +1,6 @@
 use Rattle.std.proofs.Common.{sym, ◌∙◌}
 use Rattle.gh_unify.proofs.Drawn.{below_app}
-use Rattle.gh_unify.proofs.trial.+is_below.Goals as goal
+use Rattle.tests_core.proofs.unify_trial.+is_below.Goals as goal
 
 pub returns-else-not-is_below : goal.returns-else-not-is_below
 returns-else-not-is_below t c h =

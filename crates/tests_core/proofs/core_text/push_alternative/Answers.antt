@@ -2,7 +2,7 @@ use Rattle.std.proofs.Common.{◌≤◌, subst, sym, map}
 use Rattle.gh_core_text.specs.Needs.{needs_alt, needs_all}
 use Rattle.gh_core_text.proofs.Chains.{on}
 use Rattle.gh_core_text.proofs.Pushed.{needs_push}
-use Rattle.gh_core_text.proofs.tests.push_alternative.Goals as goal
+use Rattle.tests_core.proofs.core_text.push_alternative.Goals as goal
 
 pub returns : goal.returns
 returns c =

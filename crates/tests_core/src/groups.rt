@@ -2,8 +2,8 @@
 ghost use Rattle.std.specs.Prelude.{◌<◌, ◌^◌, OnOk, IfOk};
 ghost use Rattle.gh_groups.specs.Grouping.{AreBelow};
 
-use crate::{groups, has_one_grouping};
 use gh_base::{ListOf, NoMemory};
+use gh_groups::{groups, has_one_grouping};
 use std::alloc::Global;
 use std::test::Fail;
 
@@ -77,7 +77,7 @@ fn a_chain_the_wrong_way_round(rt: HostRuntime) -> Result<(), Fail> {
 }
 
 // One more edge.
-#[tactic(auto, using(crate::proofs::Right::below_more))]
+#[tactic(auto, using(gh_groups::proofs::Right::below_more))]
 fn put(edges: &mut ListOf<(u32, u32)>, count: u32, from: u32, to: u32) -> Result<(), NoMemory>
     requires low { AreBelow count edges.old }
     requires from { from < count }

@@ -2,9 +2,9 @@
 ghost use Rattle.std.specs.Prelude.{◌≡◌, ℕ, ◌<◌, IsTrue, length};
 ghost use Rattle.gh_unify.specs.Types.{has, mono};
 
-use crate::{Unifier, UnifyFault};
 use gh_base::NoMemory;
 use gh_typeterm::{Ty, TyNode};
+use gh_unify::{Unifier, UnifyFault};
 use std::alloc::Global;
 use std::process::Abort;
 

@@ -1,8 +1,8 @@
 // Small cases, worked out by hand.
-use crate::trial::Trial;
-use crate::{Unifier, UnifyFault};
+use crate::unify_trial::Trial;
 use gh_base::{NameId, NoMemory, Origin, Space, TyCon};
 use gh_typeterm::{Ty, same, size};
+use gh_unify::{Unifier, UnifyFault};
 use std::alloc::Global;
 use std::process::Abort;
 use std::test::Fail;
