@@ -102,6 +102,11 @@ abbrev pub decl_of : Left → Span → Rhs → Decl
 decl_of (v_Left.Function f) s r = v_Decl.Function s f r
 decl_of (v_Left.Pattern p) s r = v_Decl.Pattern s p r
 
+-- the end of a block, behind its declarations
+abbrev pub decls_closed : List Sym → BlockMark → List BlockMark → List DeclItem → Read Decls
+decls_closed start a ms ds =
+    block_close >>= λ b. since start >>= λ s. pure (roll-Decls (record { span = s; «open» = a; before = ms; decls = ds; close = b }))
+
 -- a declaration with each `;` behind it
 abbrev pub decl_item_of : Decl → List BlockMark → DeclItem
 decl_item_of d ms = roll-DeclItem (record { decl = d; marks = ms })
@@ -227,9 +232,7 @@ module _ (K : Knot) where
   unfoldable pub decls_end : List Sym → BlockMark → List BlockMark → Read Decls
   decls_end start a ms = do
     ds ← decl_items
-    b ← block_close
-    s ← since start
-    pure (roll-Decls (record { span = s; «open» = a; before = ms; decls = ds; close = b }))
+    decls_closed start a ms ds
 
   unfoldable pub whole_decls : Read Decls
   whole_decls = do

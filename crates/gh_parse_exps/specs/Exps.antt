@@ -80,6 +80,22 @@ left_section start a first = do
   s ← since start
   pure (v_Aexp.Left s a xs o b)
 
+-- the end of a block, behind its alternatives, of which there is one at least
+abbrev pub alts_closed : List Sym → BlockMark → List BlockMark → List AltItem → Read Alts
+alts_closed start a ms xs =
+    block_close >>= λ b. since start >>= λ s. check (is_some xs) (roll-Alts (record { span = s; «open» = a; before = ms; alts = xs; close = b }))
+
+-- the end of a block, behind its redefinitions, of which there is one at least
+abbrev pub redefs_closed : List Sym → BlockMark → List BlockMark → List RedefItem → Read Redefs
+redefs_closed start a ms xs =
+    block_close >>= λ b. since start >>= λ s. check (is_some xs) (roll-Redefs (record { span = s; «open» = a; before = ms; redefs = xs; close = b }))
+
+-- operands with operators between them, where each but the last ends before the next operator
+abbrev pub operand_list : List Sym → Option Span → Operand → List NextOperand → Read OperandList
+operand_list start m first others =
+    since start
+    >>= λ s. check (closed_before (printed.operand first).is_open (map printed.next_operand others)) (roll-OperandList (record { span = s; minus = m; first = first; others = others }))
+
 -- an alternative with each `;` behind it
 abbrev pub alt_item_of : Alt → List BlockMark → AltItem
 alt_item_of x ms = roll-AltItem (record { alt = x; marks = ms })
@@ -138,9 +154,7 @@ module _ (K : Knot) where
   unfoldable pub alts_end : List Sym → BlockMark → List BlockMark → Read Alts
   alts_end start a ms = do
     xs ← alt_items
-    b ← block_close
-    s ← since start
-    check (is_some xs) (roll-Alts (record { span = s; «open» = a; before = ms; alts = xs; close = b }))
+    alts_closed start a ms xs
 
   unfoldable pub alts : Read Alts
   alts = do
@@ -175,9 +189,7 @@ module _ (K : Knot) where
   unfoldable pub redefs_end : List Sym → BlockMark → List BlockMark → Read Redefs
   redefs_end start a ms = do
     xs ← redef_items
-    b ← block_close
-    s ← since start
-    check (is_some xs) (roll-Redefs (record { span = s; «open» = a; before = ms; redefs = xs; close = b }))
+    redefs_closed start a ms xs
 
   abbrev pub locals_end : List Sym → BlockMark → List BlockMark → Read Locals
   locals_end start a ms = λ ss.
@@ -356,8 +368,7 @@ module _ (K : Knot) where
     m ← minus_sign
     first ← operand
     others ← next_operands
-    s ← since start
-    check (closed_before (printed.operand first).is_open (map printed.next_operand others)) (roll-OperandList (record { span = s; minus = m; first = first; others = others }))
+    operand_list start m first others
 
   unfoldable pub typed : List Sym → OperandList → Read Exp
   typed start xs = do

@@ -3,8 +3,10 @@ ghost use Rattle.gh_reader.specs.Reads.{Reads};
 ghost use Rattle.gh_parse_exps.specs.Reading.{NestsExp, NestsDecls};
 ghost use Rattle.gh_parse_exps.specs.Exps as spec;
 
-use crate::blocks::{begins_part, block_close, block_open, semis};
-use crate::boxes::{boxed_alt_item, keep_alt};
+use crate::blocks::{begins_part, block_open, semis};
+use crate::boxes::{boxed_alt_item, kept_alt};
+use crate::finished::alts_closed;
+use crate::held::{discard, kept};
 use crate::marks::{arrow, bar, is_bar};
 use crate::reader::Reader;
 use gh_base::ListOf;
@@ -29,7 +31,13 @@ impl<
         let left = bar(tokens)?;
         let test = self.closed(tokens)?;
         let mark = arrow(tokens)?;
-        let body = self.exp(tokens)?;
+        let body = match self.exp(tokens) {
+            Ok(body) => body,
+            Err(stop) => {
+                discard(test);
+                return Err(stop);
+            }
+        };
         Ok(AltGuard {
             span: tokens.since(start),
             bar: left,
@@ -49,7 +57,13 @@ impl<
             if !is_bar(tokens.kind()) {
                 return Ok(found);
             }
-            found.push(self.alt_guard(tokens)?)?;
+            match self.alt_guard(tokens) {
+                Ok(guard) => found = kept(found, guard)?,
+                Err(stop) => {
+                    discard(found);
+                    return Err(stop);
+                }
+            }
         }
         Ok(found)
     }
@@ -68,8 +82,21 @@ impl<
         ensures { Reads (spec.plain_alt (spec.knot self.now.depth) start.now pattern tokens.old) result tokens.new }
     {
         let mark = tokens.take();
-        let body = self.exp(tokens)?;
-        let locals = self.where_part(tokens)?;
+        let body = match self.exp(tokens) {
+            Ok(body) => body,
+            Err(stop) => {
+                discard(pattern);
+                return Err(stop);
+            }
+        };
+        let locals = match self.where_part(tokens) {
+            Ok(locals) => locals,
+            Err(stop) => {
+                discard(pattern);
+                discard(body);
+                return Err(stop);
+            }
+        };
         let span = tokens.since(start);
         Ok(Boxed::new(
             self.alloc,
@@ -90,9 +117,30 @@ impl<
         requires decls { NestsDecls self.now.depth (G.pre self.now.decls) (G.post self.now.decls) }
         ensures { Reads (spec.guarded_alt (spec.knot self.now.depth) start.now pattern tokens.old) result tokens.new }
     {
-        let first = self.alt_guard(tokens)?;
-        let others = self.alt_guards(tokens)?;
-        let locals = self.where_part(tokens)?;
+        let first = match self.alt_guard(tokens) {
+            Ok(first) => first,
+            Err(stop) => {
+                discard(pattern);
+                return Err(stop);
+            }
+        };
+        let others = match self.alt_guards(tokens) {
+            Ok(others) => others,
+            Err(stop) => {
+                discard(pattern);
+                discard(first);
+                return Err(stop);
+            }
+        };
+        let locals = match self.where_part(tokens) {
+            Ok(locals) => locals,
+            Err(stop) => {
+                discard(pattern);
+                discard(first);
+                discard(others);
+                return Err(stop);
+            }
+        };
         let span = tokens.since(start);
         Ok(Boxed::new(
             self.alloc,
@@ -141,8 +189,15 @@ impl<
         ensures { Reads (spec.alt_item (spec.knot self.now.depth) tokens.old) result tokens.new }
     {
         let alt = self.alt(tokens)?;
-        let marks = semis(self.alloc, tokens)?;
+        let marks = match semis(self.alloc, tokens) {
+            Ok(marks) => marks,
+            Err(stop) => {
+                discard(alt);
+                return Err(stop);
+            }
+        };
         if marks.as_slice().is_empty() && begins_part(tokens.kind()) {
+            discard(alt);
             return Err(Stop::NoParse);
         }
         Ok(boxed_alt_item(self.alloc, alt, marks)?)
@@ -159,7 +214,13 @@ impl<
             if !begins_part(tokens.kind()) {
                 return Ok(found);
             }
-            keep_alt(&mut found, self.alt_item(tokens)?)?;
+            match self.alt_item(tokens) {
+                Ok(item) => found = kept_alt(found, item)?,
+                Err(stop) => {
+                    discard(found);
+                    return Err(stop);
+                }
+            }
         }
         Ok(found)
     }
@@ -178,22 +239,14 @@ impl<
         requires decls { NestsDecls self.now.depth (G.pre self.now.decls) (G.post self.now.decls) }
         ensures { Reads (spec.alts_end (spec.knot self.now.depth) start.now left before tokens.old) result tokens.new }
     {
-        let alts = self.alt_items(tokens)?;
-        let close = block_close(tokens)?;
-        let span = tokens.since(start);
-        if alts.as_slice().is_empty() {
-            return Err(Stop::NoParse);
-        }
-        Ok(Boxed::new(
-            self.alloc,
-            Alts {
-                span,
-                open: left,
-                before,
-                alts,
-                close,
-            },
-        )?)
+        let alts = match self.alt_items(tokens) {
+            Ok(alts) => alts,
+            Err(stop) => {
+                discard(before);
+                return Err(stop);
+            }
+        };
+        alts_closed(self.alloc, tokens, start, left, before, alts)
     }
 
     /// A block of alternatives.

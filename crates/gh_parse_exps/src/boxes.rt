@@ -3,6 +3,7 @@ ghost use Rattle.std.specs.Prelude.{◌≡◌, ◌++◌, ◌∷◌, [], IfOk};
 ghost use Rattle.gh_parse_exps.specs.Decls as spec;
 ghost use Rattle.gh_parse_exps.specs.Exps as exps;
 
+use crate::held::kept;
 use gh_base::{ListOf, NoMemory, Span};
 use gh_parse_lefts::Left;
 use gh_tree::{Alt, AltItem, BlockMark, Decl, DeclItem, Rhs};
@@ -51,11 +52,13 @@ pub fn boxed_decl_item(
 
 /// One declaration more.
 #[inline(never)]
-pub fn keep_decl(found: &mut ListOf<DeclItem>, item: Boxed<DeclItem>) -> Result<(), NoMemory>
-    ensures { IfOk result (λ u. found.new ≡ found.old ++ item ∷ []) }
+pub fn kept_decl(
+    found: ListOf<DeclItem>,
+    item: Boxed<DeclItem>,
+) -> Result<ListOf<DeclItem>, NoMemory>
+    ensures { IfOk result (λ all. all ≡ found ++ item ∷ []) }
 {
-    found.push(item.into_inner())?;
-    Ok(())
+    kept(found, item.into_inner())
 }
 
 /// An alternative with each `;` behind it.
@@ -78,9 +81,8 @@ pub fn boxed_alt_item(
 
 /// One alternative more.
 #[inline(never)]
-pub fn keep_alt(found: &mut ListOf<AltItem>, item: Boxed<AltItem>) -> Result<(), NoMemory>
-    ensures { IfOk result (λ u. found.new ≡ found.old ++ item ∷ []) }
+pub fn kept_alt(found: ListOf<AltItem>, item: Boxed<AltItem>) -> Result<ListOf<AltItem>, NoMemory>
+    ensures { IfOk result (λ all. all ≡ found ++ item ∷ []) }
 {
-    found.push(item.into_inner())?;
-    Ok(())
+    kept(found, item.into_inner())
 }

@@ -4,8 +4,10 @@ ghost use Rattle.gh_parse_exps.specs.Reading.{NestsExp, NestsDecls};
 ghost use Rattle.gh_parse_exps.specs.Exps as spec;
 ghost use Rattle.gh_parse_exps.specs.Decls as decls;
 
-use crate::blocks::{begins_part, block_close, block_open, semis};
-use crate::boxes::{boxed_decl, boxed_decl_item, keep_decl};
+use crate::blocks::{begins_part, block_open, semis};
+use crate::boxes::{boxed_decl, boxed_decl_item, kept_decl};
+use crate::finished::decls_closed;
+use crate::held::{discard, kept};
 use crate::marks::{bar, colons, equals, is_bar};
 use crate::reader::Reader;
 use crate::signatures::{fixity, next_vars, signature_next};
@@ -69,7 +71,13 @@ impl<
         let left = bar(tokens)?;
         let test = self.closed(tokens)?;
         let mark = equals(tokens)?;
-        let body = self.exp(tokens)?;
+        let body = match self.exp(tokens) {
+            Ok(body) => body,
+            Err(stop) => {
+                discard(test);
+                return Err(stop);
+            }
+        };
         Ok(Guard {
             span: tokens.since(start),
             bar: left,
@@ -89,7 +97,13 @@ impl<
             if !is_bar(tokens.kind()) {
                 return Ok(found);
             }
-            found.push(self.guard(tokens)?)?;
+            match self.guard(tokens) {
+                Ok(guard) => found = kept(found, guard)?,
+                Err(stop) => {
+                    discard(found);
+                    return Err(stop);
+                }
+            }
         }
         Ok(found)
     }
@@ -104,7 +118,13 @@ impl<
     {
         let mark = tokens.take();
         let body = self.exp(tokens)?;
-        let locals = self.where_part(tokens)?;
+        let locals = match self.where_part(tokens) {
+            Ok(locals) => locals,
+            Err(stop) => {
+                discard(body);
+                return Err(stop);
+            }
+        };
         let span = tokens.since(start);
         Ok(Boxed::new(self.alloc, Rhs::Plain(span, mark, body, locals))?)
     }
@@ -118,8 +138,21 @@ impl<
         ensures { Reads (decls.guarded_rhs (spec.knot self.now.depth) start.now tokens.old) result tokens.new }
     {
         let first = self.guard(tokens)?;
-        let others = self.guards(tokens)?;
-        let locals = self.where_part(tokens)?;
+        let others = match self.guards(tokens) {
+            Ok(others) => others,
+            Err(stop) => {
+                discard(first);
+                return Err(stop);
+            }
+        };
+        let locals = match self.where_part(tokens) {
+            Ok(locals) => locals,
+            Err(stop) => {
+                discard(first);
+                discard(others);
+                return Err(stop);
+            }
+        };
         let span = tokens.since(start);
         Ok(Boxed::new(self.alloc, Rhs::Guarded(span, first, others, locals))?)
     }
@@ -148,7 +181,13 @@ impl<
         ensures { Reads (decls.sided (spec.knot self.now.depth) start.now tokens.old) result tokens.new }
     {
         let left = self.left(tokens)?;
-        let right = self.rhs(tokens)?;
+        let right = match self.rhs(tokens) {
+            Ok(right) => right,
+            Err(stop) => {
+                discard(left);
+                return Err(stop);
+            }
+        };
         Ok(boxed_decl(self.alloc, left, tokens.since(start), right)?)
     }
 
@@ -183,8 +222,15 @@ impl<
         ensures { Reads (decls.decl_item (spec.knot self.now.depth) tokens.old) result tokens.new }
     {
         let decl = self.decl(tokens)?;
-        let marks = semis(self.alloc, tokens)?;
+        let marks = match semis(self.alloc, tokens) {
+            Ok(marks) => marks,
+            Err(stop) => {
+                discard(decl);
+                return Err(stop);
+            }
+        };
         if marks.as_slice().is_empty() && begins_part(tokens.kind()) {
+            discard(decl);
             return Err(Stop::NoParse);
         }
         Ok(boxed_decl_item(self.alloc, decl, marks)?)
@@ -201,7 +247,13 @@ impl<
             if !begins_part(tokens.kind()) {
                 return Ok(found);
             }
-            keep_decl(&mut found, self.decl_item(tokens)?)?;
+            match self.decl_item(tokens) {
+                Ok(item) => found = kept_decl(found, item)?,
+                Err(stop) => {
+                    discard(found);
+                    return Err(stop);
+                }
+            }
         }
         Ok(found)
     }
@@ -220,19 +272,14 @@ impl<
         requires decls { NestsDecls self.now.depth (G.pre self.now.decls) (G.post self.now.decls) }
         ensures { Reads (decls.decls_end (spec.knot self.now.depth) start.now left before tokens.old) result tokens.new }
     {
-        let decls = self.decl_items(tokens)?;
-        let close = block_close(tokens)?;
-        let span = tokens.since(start);
-        Ok(Boxed::new(
-            self.alloc,
-            Decls {
-                span,
-                open: left,
-                before,
-                decls,
-                close,
-            },
-        )?)
+        let decls = match self.decl_items(tokens) {
+            Ok(decls) => decls,
+            Err(stop) => {
+                discard(before);
+                return Err(stop);
+            }
+        };
+        decls_closed(self.alloc, tokens, start, left, before, decls)
     }
 
     /// A block of declarations.

@@ -7,6 +7,8 @@ mod blocks;
 mod boxes;
 mod declarations;
 mod exps;
+mod finished;
+mod held;
 mod locals;
 mod marks;
 mod narrow;

@@ -3,7 +3,9 @@ ghost use Rattle.gh_reader.specs.Reads.{Reads};
 ghost use Rattle.gh_parse_exps.specs.Reading.{NestsExp, NestsDecls};
 ghost use Rattle.gh_parse_exps.specs.Exps as spec;
 
-use crate::blocks::{begins_part, block_close, block_open, semis};
+use crate::blocks::{begins_part, block_open, semis};
+use crate::finished::redefs_closed;
+use crate::held::{discard, kept};
 use crate::marks::{banana, close_banana, equals};
 use crate::ops::call_next;
 use crate::reader::Reader;
@@ -66,8 +68,15 @@ impl<
         ensures { Reads (spec.redef_item (spec.knot self.now.depth) tokens.old) result tokens.new }
     {
         let redef = self.redef(tokens)?;
-        let marks = semis(self.alloc, tokens)?;
+        let marks = match semis(self.alloc, tokens) {
+            Ok(marks) => marks,
+            Err(stop) => {
+                discard(redef);
+                return Err(stop);
+            }
+        };
         if marks.as_slice().is_empty() && begins_part(tokens.kind()) {
+            discard(redef);
             return Err(Stop::NoParse);
         }
         Ok(RedefItem { redef, marks })
@@ -83,7 +92,13 @@ impl<
             if !begins_part(tokens.kind()) {
                 return Ok(found);
             }
-            found.push(self.redef_item(tokens)?)?;
+            match self.redef_item(tokens) {
+                Ok(item) => found = kept(found, item)?,
+                Err(stop) => {
+                    discard(found);
+                    return Err(stop);
+                }
+            }
         }
         Ok(found)
     }
@@ -101,22 +116,14 @@ impl<
         requires { NestsExp self.now.depth (F.pre self.now.exp) (F.post self.now.exp) }
         ensures { Reads (spec.redefs_end (spec.knot self.now.depth) start.now left before tokens.old) result tokens.new }
     {
-        let redefs = self.redef_items(tokens)?;
-        let close = block_close(tokens)?;
-        let span = tokens.since(start);
-        if redefs.as_slice().is_empty() {
-            return Err(Stop::NoParse);
-        }
-        Ok(Boxed::new(
-            self.alloc,
-            Redefs {
-                span,
-                open: left,
-                before,
-                redefs,
-                close,
-            },
-        )?)
+        let redefs = match self.redef_items(tokens) {
+            Ok(redefs) => redefs,
+            Err(stop) => {
+                discard(before);
+                return Err(stop);
+            }
+        };
+        redefs_closed(self.alloc, tokens, start, left, before, redefs)
     }
 
     /// A block of local declarations or redefinitions.

@@ -3,8 +3,10 @@ ghost use Rattle.gh_reader.specs.Reads.{Reads};
 ghost use Rattle.gh_parse_exps.specs.Reading.{NestsExp, NestsDecls};
 ghost use Rattle.gh_parse_exps.specs.Exps as spec;
 
+use crate::finished::operand_list;
+use crate::held::{discard, kept};
 use crate::marks::{arrow, else_word, in_word, of_word, then_word};
-use crate::narrow::{closed_before, is_open, operands_open};
+use crate::narrow::operands_open;
 use crate::ops::{goes_on, minus_sign, op};
 use crate::reader::Reader;
 use gh_base::ListOf;
@@ -27,9 +29,29 @@ impl<
     {
         let mark = tokens.take();
         let first = self.arg(tokens)?;
-        let others = args(self.alloc, tokens, self.depth)?;
-        let to = arrow(tokens)?;
-        let body = self.exp(tokens)?;
+        let others = match args(self.alloc, tokens, self.depth) {
+            Ok(others) => others,
+            Err(stop) => {
+                discard(first);
+                return Err(stop);
+            }
+        };
+        let to = match arrow(tokens) {
+            Ok(to) => to,
+            Err(stop) => {
+                discard(first);
+                discard(others);
+                return Err(stop);
+            }
+        };
+        let body = match self.exp(tokens) {
+            Ok(body) => body,
+            Err(stop) => {
+                discard(first);
+                discard(others);
+                return Err(stop);
+            }
+        };
         let span = tokens.since(start);
         Ok(Boxed::new(
             self.alloc,
@@ -47,8 +69,20 @@ impl<
     {
         let mark = tokens.take();
         let locals = self.locals(tokens)?;
-        let to = in_word(tokens)?;
-        let body = self.exp(tokens)?;
+        let to = match in_word(tokens) {
+            Ok(to) => to,
+            Err(stop) => {
+                discard(locals);
+                return Err(stop);
+            }
+        };
+        let body = match self.exp(tokens) {
+            Ok(body) => body,
+            Err(stop) => {
+                discard(locals);
+                return Err(stop);
+            }
+        };
         let span = tokens.since(start);
         Ok(Boxed::new(self.alloc, Open::Let(span, mark, locals, to, body))?)
     }
@@ -62,10 +96,36 @@ impl<
     {
         let mark = tokens.take();
         let test = self.exp(tokens)?;
-        let second = then_word(tokens)?;
-        let yes = self.exp(tokens)?;
-        let third = else_word(tokens)?;
-        let not = self.exp(tokens)?;
+        let second = match then_word(tokens) {
+            Ok(second) => second,
+            Err(stop) => {
+                discard(test);
+                return Err(stop);
+            }
+        };
+        let yes = match self.exp(tokens) {
+            Ok(yes) => yes,
+            Err(stop) => {
+                discard(test);
+                return Err(stop);
+            }
+        };
+        let third = match else_word(tokens) {
+            Ok(third) => third,
+            Err(stop) => {
+                discard(test);
+                discard(yes);
+                return Err(stop);
+            }
+        };
+        let not = match self.exp(tokens) {
+            Ok(not) => not,
+            Err(stop) => {
+                discard(test);
+                discard(yes);
+                return Err(stop);
+            }
+        };
         let span = tokens.since(start);
         Ok(Boxed::new(
             self.alloc,
@@ -81,7 +141,13 @@ impl<
         ensures { Reads (spec.apply (spec.knot self.now.depth) start.now tokens.old) result tokens.new }
     {
         let first = Boxed::new(self.alloc, self.aexp(tokens)?)?;
-        let others = self.aexps(tokens)?;
+        let others = match self.aexps(tokens) {
+            Ok(others) => others,
+            Err(stop) => {
+                discard(first);
+                return Err(stop);
+            }
+        };
         Ok(Operand::Apply(tokens.since(start), first, others))
     }
 
@@ -95,8 +161,20 @@ impl<
     {
         let mark = tokens.take();
         let scrutinee = self.exp(tokens)?;
-        let of = of_word(tokens)?;
-        let alts = self.alts(tokens)?;
+        let of = match of_word(tokens) {
+            Ok(of) => of,
+            Err(stop) => {
+                discard(scrutinee);
+                return Err(stop);
+            }
+        };
+        let alts = match self.alts(tokens) {
+            Ok(alts) => alts,
+            Err(stop) => {
+                discard(scrutinee);
+                return Err(stop);
+            }
+        };
         Ok(Operand::Case(tokens.since(start), mark, scrutinee, of, alts))
     }
 
@@ -143,7 +221,13 @@ impl<
             if !goes_on(tokens) {
                 return Ok(found);
             }
-            found.push(self.next_operand(tokens)?)?;
+            match self.next_operand(tokens) {
+                Ok(next) => found = kept(found, next)?,
+                Err(stop) => {
+                    discard(found);
+                    return Err(stop);
+                }
+            }
         }
         Ok(found)
     }
@@ -159,20 +243,14 @@ impl<
         let start = tokens.rest();
         let minus = minus_sign(tokens);
         let first = self.operand(tokens)?;
-        let others = self.next_operands(tokens)?;
-        let span = tokens.since(start);
-        if !closed_before(is_open(&first), others.as_slice()) {
-            return Err(Stop::NoParse);
-        }
-        Ok(Boxed::new(
-            self.alloc,
-            OperandList {
-                span,
-                minus,
-                first,
-                others,
-            },
-        )?)
+        let others = match self.next_operands(tokens) {
+            Ok(others) => others,
+            Err(stop) => {
+                discard(first);
+                return Err(stop);
+            }
+        };
+        operand_list(self.alloc, tokens, start, minus, first, others)
     }
 
     // The type of an expression, behind its operands.

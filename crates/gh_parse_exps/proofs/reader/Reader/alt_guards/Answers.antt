@@ -14,15 +14,15 @@ loop-turn-init g c = begin bar_next (alt_guard (knot c.args.self.now.depth)) _ c
 
 pub loop-turn-preserved : goal.loop-turn-preserved
 loop-turn-preserved g c =
-    rw c.in_ok-push.ensures.ok (more bar_next (alt_guard (knot c.args.self.now.depth)) _ _ c.loop-turn._turn c.loop-turn.found c.in_ok-alt_guard.field-0 c.loop-turn.tokens c.alt_guard.new.tokens c.loop-turn-test.true (search rules) (search rules) c.loop-turn.invariant)
+    rw c.in_ok-found-in-Ok.ensures (more bar_next (alt_guard (knot c.args.self.now.depth)) _ _ c.loop-turn._turn c.loop-turn.found c.in-Ok.guard c.loop-turn.tokens c.alt_guard.new.tokens c.loop-turn-test.true (search rules) (search rules) c.loop-turn.invariant)
 
 pub returns-then-not-is_bar : goal.returns-then-not-is_bar
 returns-then-not-is_bar g c = stops bar_next (alt_guard (knot c.args.self.now.depth)) _ _ c.loop-turn.found c.loop-turn.tokens (search rules) c.loop-turn.invariant
 
-pub returns-in_err-alt_guard : goal.returns-in_err-alt_guard
-returns-in_err-alt_guard g c =
-    let e : Fails c.in_err-alt_guard.field-0.0 ((alt_guards (knot c.args.self.now.depth)) c.args.tokens.now) =
-    fails_at bar_next (alt_guard (knot c.args.self.now.depth)) c.in_err-alt_guard.field-0.0 _ _ c.loop-turn._turn c.loop-turn.found c.loop-turn.tokens c.loop-turn-test.true (search rules) c.loop-turn.invariant c.in_err-alt_guard.ensures in
+pub returns-in-Err : goal.returns-in-Err
+returns-in-Err g c =
+    let e : Fails c.in-Err.stop ((alt_guards (knot c.args.self.now.depth)) c.args.tokens.now) =
+    fails_at bar_next (alt_guard (knot c.args.self.now.depth)) c.in-Err.stop _ _ c.loop-turn._turn c.loop-turn.found c.loop-turn.tokens c.loop-turn-test.true (search rules) c.loop-turn.invariant c.in-Err.ensures in
     first_of (search rules, grind (arith, common_steps))
 
 pub returns : goal.returns

@@ -14,15 +14,15 @@ loop-turn-init g c = begin goes_on (next_operand (knot c.args.self.now.depth)) _
 
 pub loop-turn-preserved : goal.loop-turn-preserved
 loop-turn-preserved g c =
-    rw c.in_ok-push.ensures.ok (more goes_on (next_operand (knot c.args.self.now.depth)) _ _ c.loop-turn._turn c.loop-turn.found c.in_ok-next_operand.field-0 c.loop-turn.tokens c.next_operand.new.tokens c.loop-turn-test.true (search rules) (search rules) c.loop-turn.invariant)
+    rw c.in_ok-found-in-Ok.ensures (more goes_on (next_operand (knot c.args.self.now.depth)) _ _ c.loop-turn._turn c.loop-turn.found c.in-Ok.next c.loop-turn.tokens c.next_operand.new.tokens c.loop-turn-test.true (search rules) (search rules) c.loop-turn.invariant)
 
 pub returns-then-not-goes_on : goal.returns-then-not-goes_on
 returns-then-not-goes_on g c = stops goes_on (next_operand (knot c.args.self.now.depth)) _ _ c.loop-turn.found c.loop-turn.tokens (search rules) c.loop-turn.invariant
 
-pub returns-in_err-next_operand : goal.returns-in_err-next_operand
-returns-in_err-next_operand g c =
-    let e : Fails c.in_err-next_operand.field-0.0 ((next_operands (knot c.args.self.now.depth)) c.args.tokens.now) =
-    fails_at goes_on (next_operand (knot c.args.self.now.depth)) c.in_err-next_operand.field-0.0 _ _ c.loop-turn._turn c.loop-turn.found c.loop-turn.tokens c.loop-turn-test.true (search rules) c.loop-turn.invariant c.in_err-next_operand.ensures in
+pub returns-in-Err : goal.returns-in-Err
+returns-in-Err g c =
+    let e : Fails c.in-Err.stop ((next_operands (knot c.args.self.now.depth)) c.args.tokens.now) =
+    fails_at goes_on (next_operand (knot c.args.self.now.depth)) c.in-Err.stop _ _ c.loop-turn._turn c.loop-turn.found c.loop-turn.tokens c.loop-turn-test.true (search rules) c.loop-turn.invariant c.in-Err.ensures in
     first_of (search rules, grind (arith, common_steps))
 
 pub returns : goal.returns

@@ -14,15 +14,15 @@ loop-turn-init g c = begin begins_part (redef_item (knot c.args.self.now.depth))
 
 pub loop-turn-preserved : goal.loop-turn-preserved
 loop-turn-preserved g c =
-    rw c.in_ok-push.ensures.ok (more begins_part (redef_item (knot c.args.self.now.depth)) _ _ c.loop-turn._turn c.loop-turn.found c.in_ok-redef_item.field-0 c.loop-turn.tokens c.redef_item.new.tokens c.loop-turn-test.true (search rules) (search rules) c.loop-turn.invariant)
+    rw c.in_ok-found-in-Ok.ensures (more begins_part (redef_item (knot c.args.self.now.depth)) _ _ c.loop-turn._turn c.loop-turn.found c.in-Ok.item c.loop-turn.tokens c.redef_item.new.tokens c.loop-turn-test.true (search rules) (search rules) c.loop-turn.invariant)
 
 pub returns-then-not-begins_part : goal.returns-then-not-begins_part
 returns-then-not-begins_part g c = stops begins_part (redef_item (knot c.args.self.now.depth)) _ _ c.loop-turn.found c.loop-turn.tokens (search rules) c.loop-turn.invariant
 
-pub returns-in_err-redef_item : goal.returns-in_err-redef_item
-returns-in_err-redef_item g c =
-    let e : Fails c.in_err-redef_item.field-0.0 ((redef_items (knot c.args.self.now.depth)) c.args.tokens.now) =
-    fails_at begins_part (redef_item (knot c.args.self.now.depth)) c.in_err-redef_item.field-0.0 _ _ c.loop-turn._turn c.loop-turn.found c.loop-turn.tokens c.loop-turn-test.true (search rules) c.loop-turn.invariant c.in_err-redef_item.ensures in
+pub returns-in-Err : goal.returns-in-Err
+returns-in-Err g c =
+    let e : Fails c.in-Err.stop ((redef_items (knot c.args.self.now.depth)) c.args.tokens.now) =
+    fails_at begins_part (redef_item (knot c.args.self.now.depth)) c.in-Err.stop _ _ c.loop-turn._turn c.loop-turn.found c.loop-turn.tokens c.loop-turn-test.true (search rules) c.loop-turn.invariant c.in-Err.ensures in
     first_of (search rules, grind (arith, common_steps))
 
 pub returns : goal.returns
