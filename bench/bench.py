@@ -9,7 +9,6 @@ top, work = sys.argv[1], sys.argv[2]
 GENHS = os.path.join(top, "crates/gh_cli/out/gh_cli")
 BENCH = os.path.join(top, "crates/gh_bench/out/gh_bench")
 MACHINE = os.path.join(top, "crates/bench_machine/out/bench_machine")
-PARSER = os.path.join(top, "crates/bench_parser/out/bench_parser")
 
 
 def best(command):
@@ -75,12 +74,13 @@ def elements(size):
     return b"x = [" + b", ".join([b"y"] * size) + b"]"
 
 
-table("lexing, layout and parsing, declarations", "bytes", KIB, declarations, lambda path, size: [PARSER, path])
+table("a check by the whole grammar, declarations", "bytes", KIB, declarations, lambda path, size: [GENHS, "check", path])
 TENS = [12500 * 2 ** k for k in range(4)]
-table("lexing, layout and parsing, one expression", "operands", TENS, operands, lambda path, size: [PARSER, path])
-table("lexing, layout and parsing, one list", "elements", TENS, elements, lambda path, size: [PARSER, path])
+table("a check by the whole grammar, one expression", "operands", TENS, operands, lambda path, size: [GENHS, "check", path])
+table("a check by the whole grammar, one list", "elements", TENS, elements, lambda path, size: [GENHS, "check", path])
 
-# The status of a file of one item that nests so deep: 0 where it is read, 10 where it is too deep.
+# A file of one item that nests so deep. Its check refuses it by 9, since no phase is built for its form, or by 10, where it is too
+# deep.
 NESTED = {
     "parentheses": lambda n: "x = " + "(" * n + "y" + ")" * n,
     "lists": lambda n: "x = " + "[" * n + "y" + "]" * n,
@@ -101,11 +101,14 @@ NESTED = {
 }
 
 
-def status(make, depth):
+def refusal(make, depth):
+    """The number of the refusal, or "none" where the program gave no answer."""
     path = os.path.join(work, "nested.hs")
     with open(path, "w") as file:
         file.write(make(depth) + "\n")
-    return subprocess.run([PARSER, path], stdout=subprocess.DEVNULL, stderr=subprocess.DEVNULL, check=False).returncode
+    run = subprocess.run([GENHS, "check", path], stdout=subprocess.DEVNULL, stderr=subprocess.PIPE, check=False)
+    line = run.stderr.decode(errors="replace").split(": ")
+    return line[1].split()[0] if run.returncode == 1 and len(line) > 1 else "none"
 
 
 def deepest_answer(make):
@@ -113,16 +116,16 @@ def deepest_answer(make):
     low, high = 1, 65536
     while low + 1 < high:
         middle = (low + high) // 2
-        if status(make, middle) in (0, 9, 10):
+        if refusal(make, middle) != "none":
             low = middle
         else:
             high = middle
     return low
 
 
-print("levels inside one another: the status at 2,000, and the most levels that are answered")
+print("levels inside one another: the refusal of 2,000, and the most levels that are answered")
 for name, make in NESTED.items():
-    print(f"  {name:<26} {status(make, 2000):>4}  {deepest_answer(make):>6}")
+    print(f"  {name:<26} {refusal(make, 2000):>4}  {deepest_answer(make):>6}")
 print()
 
 

@@ -1,1 +1,0 @@
-module Main where { main = "hi" }
