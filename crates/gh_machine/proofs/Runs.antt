@@ -59,6 +59,15 @@ unfolding reductions names_bound_in
 names_more p zero s = omega arith
 names_more p (suc n) s = omega (arith, names_more p n (reduce p s))
 
+-- so many names, and those of so many reductions more
+pub names_add : (p : Program) (m n : ℕ) (s : State) → names_bound_in p (m + n) s ≡ names_bound_in p m s + names_bound_in p n (reductions p m s)
+unfolding reductions names_bound_in
+names_add p zero n s = let e : zero + n ≡ n = omega arith in ap (λ k. names_bound_in p k s) e ∙ (let z : names_bound_in p n s ≡ 0 + names_bound_in p n s = omega arith in z)
+names_add p (suc m) n s =
+    let e : suc m + n ≡ suc (m + n) = omega arith in
+    let all : names_bound_in p (suc m + n) s ≡ names_bound p s + names_bound_in p (m + n) (reduce p s) = ap (λ k. names_bound_in p k s) e in
+    omega (arith, all, names_add p m n (reduce p s))
+
 pub names_rise : (p : Program) (n k : ℕ) (s : State) → n ≤ k → names_bound_in p n s ≤ names_bound_in p k s
 unfolding names_bound_in
 names_rise p zero k s le = omega arith
