@@ -1,6 +1,6 @@
 //! Prints how long the machine takes for a counting loop, walks through a list of 100,000 cells, a list that is printed without end,
-//! and deep unevaluated terms. The word `go` means all of them at doubling numbers of reductions, and the name of one of them means
-//! that one alone. Without a word it prints nothing.
+//! deep unevaluated terms, and a difference that waits for itself. The word `go` means all of them at doubling numbers of reductions,
+//! and the name of one of them means that one alone. Without a word it prints nothing.
 #![tactic(auto)]
 
 use gh_base::fixed::{CONS, EQUAL, FALSE, MAIN, MAIN_MODULE, MINUS, NIL, PRELUDE, TRUE};
@@ -29,6 +29,8 @@ enum Shape {
     Print,
     /// `loop = \n -> case n == 0 of { True -> []; False -> loop (n - 1) }`, where each `n` is the next one's, less 1.
     Deep,
+    /// `loop = loop - 1`, where ever more waits.
+    Stack,
 }
 
 impl Shape {
@@ -38,6 +40,7 @@ impl Shape {
             Shape::List => "list",
             Shape::Print => "print",
             Shape::Deep => "deep",
+            Shape::Stack => "stack",
         }
     }
 }
@@ -141,6 +144,10 @@ fn program(alloc: Global, shape: Shape) -> Result<Erased, NoMemory> {
             deep(alloc)?,
             app(alloc, global(), ErasedTerm::Int(1_000_000_000))?,
         ),
+        Shape::Stack => (
+            binary(alloc, MINUS, global(), ErasedTerm::Int(1))?,
+            global(),
+        ),
     };
     let mut defs = ListOf::new(alloc);
     defs.push((CoreName::Plain(value(MAIN_MODULE, MAIN)), term))?;
@@ -187,7 +194,13 @@ fn measure<R: Clock + Print>(
 }
 
 fn run<R: Clock + Print>(rt: &R, alloc: Global, word: &str) -> io::Result<()> {
-    for shape in [Shape::Loop, Shape::List, Shape::Print, Shape::Deep] {
+    for shape in [
+        Shape::Loop,
+        Shape::List,
+        Shape::Print,
+        Shape::Deep,
+        Shape::Stack,
+    ] {
         if word == "go" {
             for thousands in [250, 500, 1000] {
                 measure(rt, alloc, shape, thousands)?;

@@ -1,3 +1,4 @@
+pub mod BindingExamples
 pub mod Close
 pub mod Examples
 pub mod Nameless

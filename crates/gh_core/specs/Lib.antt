@@ -1,3 +1,4 @@
+pub mod Bindings
 pub mod Closing
 pub mod Erase
 pub mod Levels

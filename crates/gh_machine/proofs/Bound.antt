@@ -64,6 +64,16 @@ bound_group cells new c n fine g v is long =
     pushed cells new c n (group (binds_in (code_in c.value)) (env_in (envs_of cells) (env_of c.value))) fine (omega arith) v is long
     (ap (λ b. cond b (group (binds_in (code_in c.value)) (env_in (envs_of cells) (env_of c.value))) (put (env_in (envs_of cells) (parent_of c)) c.name (closed_in (envs_of cells) c.value))) t)
 
+-- an environment that is there
+pub bound_here : (cells : List Cell) (env : ℕ) (ρ : Env) → IsFine cells → env ≤ length cells → env_in (envs_of cells) env ≡ ρ → IsBound cells cells env ρ
+bound_here cells env ρ fine le e = record {
+  fine = fine;
+  within = le;
+  env = e;
+  keeps = λ k h. refl;
+  more = omega arith;
+}
+
 -- the last names from a place on are bound
 abbrev pub from_place : List Cell → ℕ → List ℕ → List Waiting → ℕ → Env
 from_place cells env xs ws i = put_all (env_in (envs_of cells) env) (drop i xs) (drop i (args_of ws))
@@ -76,13 +86,8 @@ drop_whole [] = refl
 drop_whole (x ∷ xs) = drop_whole xs
 
 pub bound_none : (cells : List Cell) (env : ℕ) (xs : List ℕ) (ws : List Waiting) (i : ℕ) → IsFine cells → env ≤ length cells → i ≡ length xs → IsBound cells cells env (from_place cells env xs ws i)
-bound_none cells env xs ws i fine le e = record {
-  fine = fine;
-  within = le;
-  env = sym (ap (λ ys. put_all (env_in (envs_of cells) env) ys (drop i (args_of ws))) (ap (λ k. drop k xs) e ∙ drop_whole xs));
-  keeps = λ k h. refl;
-  more = omega arith;
-}
+bound_none cells env xs ws i fine le e =
+    bound_here cells env (from_place cells env xs ws i) fine le (sym (ap (λ ys. put_all (env_in (envs_of cells) env) ys (drop i (args_of ws))) (ap (λ k. drop k xs) e ∙ drop_whole xs)))
 
 pub bound_more : (old mid new : List Cell) (env top next i : ℕ) (xs : List ℕ) (ws : List Waiting) (x : ℕ) (v : Closure)
     → IsBound old mid top (from_place old env xs ws (suc i))

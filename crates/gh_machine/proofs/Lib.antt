@@ -4,6 +4,7 @@ pub mod Envs
 pub mod Keys
 pub mod Looks
 pub mod Moves
+pub mod Names
 pub mod Picks
 pub mod Prefix
 pub mod Reaches

@@ -7,11 +7,12 @@ use Rattle.gh_base.specs.declared.place.Space.{Space}
 use Rattle.gh_base.specs.declared.place.Space.TheVariants.{Values, Types}
 use Rattle.gh_base.specs.contracts.place.Space.{the_type as the_space}
 use denote.Enum.Bare.{sameb}
-use Rattle.gh_core.specs.Terms.{Term, letrec, Binds}
+use Rattle.gh_core.specs.Terms.{Term, letrec, Binds, no_bind, bind}
 use Rattle.gh_core.specs.Closing.{Env, empty, without, is_in, binds_name, close, close_binds, put, put_all, put_rec}
 use Rattle.gh_core.specs.Primitives.{nil, cons, same_origin, same_space}
 use Rattle.gh_core.specs.Reduce.{Waiting, arg, State, args_of, after_args, listed, list_cell, demand, enter, uncover, unfold_global, reduce_at, opened, Program}
 use Rattle.gh_core.specs.Run.{start}
+use Rattle.gh_core.specs.Bindings.{binding_count, names_at}
 use Rattle.gh_core.proofs.Close.{close-empty}
 use Rattle.gh_machine.specs.Unload.{env_in, envs_of, demand_env, group, binds_in}
 use Rattle.gh_machine.specs.Stacks.{stack_in, AreWithin}
@@ -54,11 +55,12 @@ goes_to old new s t g e = record {
   pending_capacity = g.pending_capacity;
 }
 
-pub leads_same : (p : Parts) (s : State) → IsHeld p → state_of p ≡ s → Leads p p s
+pub leads_same : {n : ℕ} (p : Parts) (s : State) → IsHeld p → state_of p ≡ s → Leads n p p s
 leads_same p s h e = record {
   held = h;
   state = e;
   program = refl;
+  cells = omega arith;
   total = omega arith;
   stack = omega arith;
   near = omega arith;
@@ -68,11 +70,12 @@ leads_same p s h e = record {
   pending_capacity = omega arith;
 }
 
-pub leads_to : (old new : Parts) (s t : State) → Leads old new s → s ≡ t → Leads old new t
-leads_to old new s t g e = record {
+pub leads_to : {m n : ℕ} (old new : Parts) (s t : State) → Leads m old new s → m ≤ n → s ≡ t → Leads n old new t
+leads_to old new s t g le e = record {
   held = g.held;
   state = g.state ∙ e;
   program = g.program;
+  cells = let a = g.cells in omega arith;
   total = g.total;
   stack = g.stack;
   near = g.near;
@@ -166,14 +169,15 @@ held_bound old mid top ρ h b s d near far =
       };
     }
 
-pub led_bound : (old mid new : Parts) (n top : ℕ) (t : Term) (ρ : Env) (s : State) → IsHeld old → IsBound old.cells.items mid.cells.items top ρ
+pub led_bound : {k m : ℕ} (old mid new : Parts) (n top : ℕ) (t : Term) (ρ : Env) (s : State) → IsHeld old → IsBound old.cells.items mid.cells.items top ρ
     → mid.stack ≡ old.stack → mid.pending ≡ old.pending → mid.program ≡ old.program → vec_capacity old.cells ≤ vec_capacity mid.cells
-    → Leads mid new (demand (close t (env_in (envs_of mid.cells.items) top)) (drop n (stack_in (envs_of mid.cells.items) [] mid.stack.items)) mid.pending.items)
+    → Leads k mid new (demand (close t (env_in (envs_of mid.cells.items) top)) (drop n (stack_in (envs_of mid.cells.items) [] mid.stack.items)) mid.pending.items)
+    → vec_len new.cells ≤ vec_len old.cells + m
     → vec_len new.cells + vec_len new.stack ≤ vec_len old.cells + vec_len old.stack + 2
     → new.furthest ≤ old.furthest + 2
     → demand (close t ρ) (drop n (stack_in (envs_of old.cells.items) [] old.stack.items)) old.pending.items ≡ s
-    → Leads old new s
-led_bound old mid new n top t ρ s h b st pe pr cap l total near e =
+    → Leads m old new s
+led_bound old mid new n top t ρ s h b st pe pr cap l names total near e =
     let same : stack_in (envs_of mid.cells.items) [] mid.stack.items ≡ stack_in (envs_of old.cells.items) [] old.stack.items =
     ap (λ v. stack_in (envs_of mid.cells.items) [] v.items) st ∙ stack_same (envs_of old.cells.items) (envs_of mid.cells.items) (length old.cells.items) old.stack.items b.keeps h.stack in
     let a = ap (λ v. vec_len v) st in
@@ -189,6 +193,7 @@ led_bound old mid new n top t ρ s h b st pe pr cap l total near e =
       held = l.held;
       state = l.state ∙ (λ i. demand (close t (b.env i)) (drop n (same i)) ((pe i).items)) ∙ e;
       program = l.program ∙ pr;
+      cells = names;
       total = total;
       near = near;
       stack = omega (arith, a, l1);
@@ -244,3 +249,13 @@ unrolled_binding B b u ρ ws out e = ap (λ v. demand (close v (group B ρ)) ws 
 pub unfolded : (cells : List Cell) (o : Option Term) (t : Term) (ws : List Waiting) (out : List ℕ) (s : State) → Some t ≡ o → demand (close t (env_in (envs_of cells) 0)) ws out ≡ unfold_global o ws out s
 unfolded cells o t ws out s e =
     ap (λ (ρ : Env). demand (close t ρ) ws out) (env_in_zero cells) ∙ ap (λ u. demand u ws out) (close-empty t) ∙ ap (λ p. unfold_global p ws out s) e
+
+-- a substitution keeps the number of bindings
+pub bindings-close : (bs : Binds) (σ : Env) → binding_count (close_binds bs σ) ≡ binding_count bs
+bindings-close no_bind σ = refl
+bindings-close (bind x t rest) σ = ap suc (bindings-close rest σ)
+
+-- a letrec binds its names
+pub unrolled_names : (p : Program) (T : Term) (B : Binds) (b : Term) (ρ : Env) (ws : List Waiting) → T ≡ letrec B b → binding_count (binds_in T) ≡ names_at p (opened (close T ρ)) ws
+unrolled_names p T B b ρ ws is =
+    subst (λ (u : Term). binding_count (binds_in u) ≡ names_at p (opened (close u ρ)) ws) (sym is) (sym (bindings-close B (without ρ (binds_name B))))

@@ -111,11 +111,11 @@ take_literal : (a : Alt) (more : Alts) (l : Literal) → fits_literal a l ≡ tr
 take_literal (con_alt d xs t) more l h ρ stack out s = absurd (let no : ⊥ = cc in no)
 take_literal (lit_alt m t) more l h ρ stack out s = ap (λ b. cond b (demand (close t ρ) stack out) (choose_literal (close_alts more ρ) l stack out s)) h
 
-rest_next : (items : List ErasedAlt) (o : Option ErasedTerm) (i : ℕ) (a : ErasedAlt) → i < length items → a ≡ get_or items i a → rest_of items o i ≡ alt (alt_of a) (rest_of items o (i + 1))
+pub rest_next : (items : List ErasedAlt) (o : Option ErasedTerm) (i : ℕ) (a : ErasedAlt) → i < length items → a ≡ get_or items i a → rest_of items o i ≡ alt (alt_of a) (rest_of items o (i + 1))
 rest_next items o i a lt at =
     ap (λ xs. alts_of (map alt_of xs) (option_map term_of o)) (drop-cons items i a lt ∙ (λ k. sym at k ∷ drop (sym (add-one i) k) items))
 
-rest_none : (items : List ErasedAlt) (o : Option ErasedTerm) (i : ℕ) → length items ≤ i → rest_of items o i ≡ alts_of [] (option_map term_of o)
+pub rest_none : (items : List ErasedAlt) (o : Option ErasedTerm) (i : ℕ) → length items ≤ i → rest_of items o i ≡ alts_of [] (option_map term_of o)
 rest_none items o i le = ap (λ xs. alts_of (map alt_of xs) (option_map term_of o)) (drop_beyond i items le)
 
 pub con_passed : (items : List ErasedAlt) (o : Option ErasedTerm) (i : ℕ) (a : ErasedAlt) (c : Origin) (n : ℕ) → i < length items → a ≡ get_or items i a → fits_con (alt_of a) c n ≡ false → SameChoice (rest_of items o 0) (rest_of items o i) c n → SameChoice (rest_of items o 0) (rest_of items o (i + 1)) c n

@@ -1,5 +1,5 @@
 -- What was printed before plays no part in a reduction.
-use Rattle.std.proofs.Common.{◌≡◌, ℕ, zero, suc, List, [], ◌∷◌, ◌++◌, Bool, true, false, cond, Option, Some, None, refl, sym, ap, ◌∙◌, append_assoc, append-nil, length, drop}
+use Rattle.std.proofs.Common.{◌≡◌, ℕ, zero, suc, ◌+◌, List, [], ◌∷◌, ◌++◌, Bool, true, false, cond, Option, Some, None, refl, sym, ap, ◌∙◌, append_assoc, append-nil, length, drop}
 use Rattle.std.specs.Prelude.{◌==◌, ◌&&◌}
 use Rattle.std.specs.Char.{encode_utf8}
 use Rattle.gh_base.specs.declared.place.Origin.{Origin}
@@ -8,6 +8,7 @@ use Rattle.gh_core.specs.Terms.{Literal, int, char, Term, var, glob, con, lit, s
 use Rattle.gh_core.specs.Closing.{empty, close, put, put_all, put_rec}
 use Rattle.gh_core.specs.Primitives.{Primitive, error, unary, binary, named, primitives, Outcome, gives, fails, nothing, unary_outcome, binary_outcome, nil, cons, same_origin}
 use Rattle.gh_core.specs.Reduce.{Waiting, arg, of_case, under, only, first, second, printing, Status, running, ended, failed, State, Program, opened, args_of, after_args, string_con, string_args, at, list_cell, listed, settled_at, demand, defined, unfold_global, enter, choose, choose_literal, same_literal, uncover, give, conclude, print, supply, operate, is_newtype, begin_case, reduce_at, reduce_in, reduce, reductions}
+use Rattle.gh_core.specs.Bindings.{names_under, names_bound_in}
 use Rattle.gh_machine.specs.Prefix.{with_out, printed_before}
 
 abbrev P : List ℕ → State → State
@@ -159,6 +160,22 @@ reductions-before f p (suc n) s = ap (reductions p n) (reduces_in f p s.status s
 -- what a run that was cleared prints stands after what was printed before
 pub reductions-cleared : (p : Program) (n : ℕ) (s : State) → printed_before s.out (reductions p n (with_out [] s)) ≡ reductions p n s
 reductions-cleared p n s = sym (reductions-before s.out p n (with_out [] s)) ∙ ap (λ out. reductions p n (with_out out s)) (append-nil s.out)
+
+names_before_in : (f : List ℕ) (p : Program) (status : Status) (s : State) → names_under p status (P f s) ≡ names_under p status s
+names_before_in f p running s = refl
+names_before_in f p ended s = refl
+names_before_in f p (failed cause place) s = refl
+
+-- and they bind as many names
+pub names-before : (f : List ℕ) (p : Program) (n : ℕ) (s : State) → names_bound_in p n (printed_before f s) ≡ names_bound_in p n s
+unfolding names_bound_in
+names-before f p zero s = refl
+names-before f p (suc n) s =
+    let next : names_bound_in p n (reduce p (P f s)) ≡ names_bound_in p n (reduce p s) = ap (names_bound_in p n) (reduces_in f p s.status s) ∙ names-before f p n (reduce p s) in
+    λ i. names_before_in f p s.status s i + next i
+
+pub names-cleared : (p : Program) (n : ℕ) (s : State) → names_bound_in p n (with_out [] s) ≡ names_bound_in p n s
+names-cleared p n s = sym (names-before s.out p n (with_out [] s)) ∙ ap (λ out. names_bound_in p n (with_out out s)) (append-nil s.out)
 
 -- the pieces join: those bytes, then these, are all of them
 pub before-before : (f g : List ℕ) (s : State) → printed_before f (printed_before g s) ≡ printed_before (f ++ g) s

@@ -4,6 +4,7 @@ use Rattle.gh_core.specs.Reduce.{State, Program, Status, running, ended, failed,
 use Rattle.gh_core.specs.Primitives.{Cause}
 use Rattle.gh_base.specs.declared.place.Span.{Span}
 use Rattle.gh_core.specs.Run.{program_of}
+use Rattle.gh_core.specs.Bindings.{names_bound, names_bound_in}
 use Rattle.gh_machine.specs.Sound.{IsHeld, HasRoom, Leads, state_of, program_in}
 use Rattle.gh_machine.specs.Unload.{envs_of}
 use Rattle.gh_machine.specs.Grown.{Grows}
@@ -17,11 +18,12 @@ pub record IsRun (n : ℕ) (start now : Parts) : Type 0 where
   pub program : now.program ≡ start.program
   pub room : (m : ℕ) → HasRoom (n + m) start → HasRoom m now
   pub grows : Grows n start now
+  pub names : length now.cells.items ≤ length start.cells.items + names_bound_in (program_in start) n (state_of start)
 
 pub less_room : (n m : ℕ) (p : Parts) → m ≤ n → HasRoom n p → HasRoom m p
 less_room n m p le h = record { cells = let a = h.cells in omega arith; few = let a = h.few in omega arith; near = let a = h.near in omega arith; stack = let a = h.stack in omega arith; pending = let a = h.pending in omega arith }
 
-grown_next : (n : ℕ) {s : State} (start now next : Parts) → Grows n start now → Leads now next s → Grows (n + 1) start next
+grown_next : (n : ℕ) {k : ℕ} {s : State} (start now next : Parts) → Grows n start now → Leads k now next s → Grows (n + 1) start next
 grown_next n start now next g l = record {
   cells = let a = g.cells in let b = l.total in omega (arith, now.cells.ok.0, now.stack.ok.0, next.cells.ok.0, next.stack.ok.0);
   stack = let a = g.stack in let b = l.stack in omega (arith, now.stack.ok.0, next.stack.ok.0);
@@ -32,8 +34,8 @@ pub grown_less : (n k : ℕ) (start now : Parts) → n ≤ k → Grows n start n
 grown_less n k start now le g = record { cells = let a = g.cells in omega arith; stack = let a = g.stack in omega arith; pending = let a = g.pending in omega arith }
 
 pub run_none : (p : Parts) → IsHeld p → IsRun 0 p p
-unfolding reductions
-run_none p s = record { held = s; state = refl; program = refl; room = λ m h. less_room (0 + m) m p (omega arith) h; grows = record { cells = omega arith; stack = omega arith; pending = omega arith } }
+unfolding reductions names_bound_in
+run_none p s = record { held = s; names = omega arith; state = refl; program = refl; room = λ m h. less_room (0 + m) m p (omega arith) h; grows = record { cells = omega arith; stack = omega arith; pending = omega arith } }
 
 pub reductions_more : (p : Program) (n : ℕ) (s : State) → reductions p (suc n) s ≡ reduce p (reductions p n s)
 unfolding reductions
@@ -52,7 +54,31 @@ pub reductions_zero : (p : Program) (s : State) → reductions p 0 s ≡ s
 unfolding reductions
 reductions_zero p s = refl
 
-pub run_more : (n : ℕ) (start now next : Parts) → IsRun n start now → Leads now next (reduce (program_in now) (state_of now)) → IsRun (n + 1) start next
+names_more : (p : Program) (n : ℕ) (s : State) → names_bound_in p (suc n) s ≡ names_bound_in p n s + names_bound p (reductions p n s)
+unfolding reductions names_bound_in
+names_more p zero s = omega arith
+names_more p (suc n) s = omega (arith, names_more p n (reduce p s))
+
+-- so many names, and those of so many reductions more
+pub names_add : (p : Program) (m n : ℕ) (s : State) → names_bound_in p (m + n) s ≡ names_bound_in p m s + names_bound_in p n (reductions p m s)
+unfolding reductions names_bound_in
+names_add p zero n s = let e : zero + n ≡ n = omega arith in ap (λ k. names_bound_in p k s) e ∙ (let z : names_bound_in p n s ≡ 0 + names_bound_in p n s = omega arith in z)
+names_add p (suc m) n s =
+    let e : suc m + n ≡ suc (m + n) = omega arith in
+    let all : names_bound_in p (suc m + n) s ≡ names_bound p s + names_bound_in p (m + n) (reduce p s) = ap (λ k. names_bound_in p k s) e in
+    omega (arith, all, names_add p m n (reduce p s))
+
+pub names_rise : (p : Program) (n k : ℕ) (s : State) → n ≤ k → names_bound_in p n s ≤ names_bound_in p k s
+unfolding names_bound_in
+names_rise p zero k s le = omega arith
+names_rise p (suc n) zero s le = absurd (omega arith)
+names_rise p (suc n) (suc k) s le = omega (arith, names_rise p n k (reduce p s) (omega arith))
+
+-- what is bound by so many reductions is bound by more
+pub names_less : (n k : ℕ) (start now : Parts) → n ≤ k → IsRun n start now → length now.cells.items ≤ length start.cells.items + names_bound_in (program_in start) k (state_of start)
+names_less n k start now le r = let a = r.names in omega (arith, names_rise (program_in start) n k (state_of start) le)
+
+pub run_more : (n : ℕ) (start now next : Parts) → IsRun n start now → Leads (names_bound (program_in now) (state_of now)) now next (reduce (program_in now) (state_of now)) → IsRun (n + 1) start next
 run_more n start now next r l = record {
   held = l.held;
   state = l.state ∙ (λ i. reduce (program_of (r.program i)) (r.state i)) ∙ sym (reductions_more (program_in start) n (state_of start)) ∙ ap (λ k. reductions (program_in start) k (state_of start)) (sym (add-one n));
@@ -65,6 +91,13 @@ run_more n start now next r l = record {
     pending = let a = k.pending in let b = l.pending in let d = l.pending_capacity in omega arith;
   };
   grows = grown_next n start now next r.grows l;
+  names =
+      let here : names_bound (program_in now) (state_of now) ≡ names_bound (program_in start) (reductions (program_in start) n (state_of start)) = λ i. names_bound (program_of (r.program i)) (r.state i) in
+      let all = names_more (program_in start) n (state_of start) ∙ ap (λ k. names_bound_in (program_in start) n (state_of start) + k) (sym here) in
+      let next_one = ap (λ k. names_bound_in (program_in start) k (state_of start)) (add-one n) in
+      let a = r.names in
+      let b = l.cells in
+      omega (arith, all, next_one, a, b, now.cells.ok.0, next.cells.ok.0);
 }
 
 -- a run that has ended or failed stays

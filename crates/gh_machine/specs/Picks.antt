@@ -40,6 +40,12 @@ abbrev pub plain_on : Option ErasedTerm → Env → List Waiting → List ℕ �
 plain_on (Some t) ρ stack out s = demand (close (term_of t) ρ) stack out
 plain_on None ρ stack out s = s
 
+-- how many names this binds
+abbrev pub picked_names : Picked → ℕ
+picked_names (Bound xs t) = length xs.now
+picked_names (Plain t) = 0
+picked_names Nothing = 0
+
 -- as many names as arguments
 abbrev pub HasNames : ℕ → Picked → Type 0
 HasNames n (Bound xs t) = length xs.now ≡ n

@@ -50,11 +50,12 @@ pub record Goes (old new : Parts) (s : State) : Type 0 where
   pub stack_capacity : vec_capacity old.stack ≤ vec_capacity new.stack
   pub pending_capacity : vec_capacity old.pending ≤ vec_capacity new.pending
 
--- from the one machine to the other, which stands for s, in one reduction
-pub record Leads (old new : Parts) (s : State) : Type 0 where
+-- from the one machine to the other, which stands for s, in one reduction that binds so many names
+pub record Leads (names : ℕ) (old new : Parts) (s : State) : Type 0 where
   pub held : IsHeld new
   pub state : state_of new ≡ s
   pub program : new.program ≡ old.program
+  pub cells : vec_len new.cells ≤ vec_len old.cells + names
   pub total : vec_len new.cells + vec_len new.stack ≤ vec_len old.cells + vec_len old.stack + 2
   pub stack : vec_len new.stack ≤ vec_len old.stack + 1
   pub near : new.furthest ≤ old.furthest + 2

@@ -3,12 +3,14 @@ ghost use Rattle.std.specs.Prelude.{◌≡◌, ℕ, ◌+◌, ◌-◌, ◌<◌, �
 ghost use Rattle.gh_core.specs.Closing.{Env, put, put_all};
 ghost use Rattle.gh_core.specs.Reduce.{args_of};
 ghost use Rattle.gh_core.specs.Reading.{term_of};
+ghost use Rattle.gh_core.specs.Bindings.{binding_count};
 ghost use Rattle.gh_machine.specs.Unload.{IsFine, env_in, envs_of, env_of, closed_in, group, binds_in};
 ghost use Rattle.gh_machine.specs.Stacks.{stack_in, AreWithin};
 ghost use Rattle.gh_machine.specs.Reach.{reach_of, IsNear, AreNear};
 ghost use Rattle.gh_machine.specs.Sound.{IsBound};
 
 use crate::closure::{Cell, Closure, Frame, GROUP};
+use crate::pick::count_bindings;
 use crate::stack::{add, arg_at};
 use gh_core::ErasedTerm;
 
@@ -35,7 +37,7 @@ pub fn bind<'a>(cells: &mut Vec<Cell<'a>>, name: u32, parent: u32, value: Closur
     cells.len() as u32
 }
 
-/// The environment with all names of a `letrec`.
+/// The environment with all names of a `letrec`, in one cell. Without bindings it stays, and takes none.
 pub fn bind_group<'a>(cells: &mut Vec<Cell<'a>>, env: u32, term: &'a ErasedTerm) -> u32
     requires fine { IsFine cells.old.items }
     requires within { env ≤ length cells.old.items }
@@ -43,9 +45,13 @@ pub fn bind_group<'a>(cells: &mut Vec<Cell<'a>>, env: u32, term: &'a ErasedTerm)
     requires room { vec_len cells.old < vec_capacity cells.old }
     ensures bound { IsBound cells.old.items cells.new.items result (group (binds_in (term_of term.now)) (env_in (envs_of cells.old.items) env)) }
     ensures near { (n : ℕ) → IsNear n cells.old.items → IsNear n cells.new.items }
-    ensures len { vec_len cells.new ≡ vec_len cells.old + 1 }
+    ensures names { vec_len cells.new ≤ vec_len cells.old + binding_count (binds_in (term_of term.now)) }
+    ensures len { vec_len cells.new ≤ vec_len cells.old + 1 }
     ensures capacity { vec_capacity cells.old ≤ vec_capacity cells.new }
 {
+    if count_bindings(term) == 0 {
+        return env;
+    }
     add(
         cells,
         Cell {

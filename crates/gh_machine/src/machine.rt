@@ -1,6 +1,7 @@
 // The machine, as callers see it.
 ghost use Rattle.std.specs.Prelude.{◌≡◌, ◌+◌, ◌*◌, ◌≤◌, [], length, IfOk, OnOk, OnErr};
 ghost use Rattle.gh_core.specs.Reading.{term_of};
+ghost use Rattle.gh_core.specs.Bindings.{names_bound_in};
 ghost use Rattle.gh_core.specs.Reduce.{reductions};
 ghost use Rattle.gh_core.specs.Run.{start, program_of};
 ghost use Rattle.gh_machine.specs.Prefix.{with_out};
@@ -76,13 +77,15 @@ impl<'a> Machine<'a> {
     }
 
     /// Makes so many reductions, or fewer where the run ends or fails, and answers how the run stands then: it goes on exactly where
-    /// all were made and the state still runs. It takes no memory. One reduction adds at most one entry to what waits, one printed
-    /// character of at most four bytes, and two to the cells and entries together: where a case binds names, their entries are gone.
+    /// all were made and the state still runs. It takes no memory. One reduction adds at most one cell for each name that it binds,
+    /// one entry to what waits, one printed character of at most four bytes, and two to the cells and entries together: where a
+    /// case binds names, their entries are gone.
     pub fn steps(&mut self, k: u32) -> Turn
         requires { k ≤ self.old.spare }
         ensures program { self.new.program ≡ self.old.program }
         ensures state { self.new.state ≡ reductions (program_of self.old.program) k self.old.state }
         ensures turn { status_of result ≡ self.new.state.status }
+        ensures names { self.new.cells ≤ self.old.cells + names_bound_in (program_of self.old.program) k self.old.state }
         ensures cells { self.new.cells + length self.new.state.stack ≤ self.old.cells + length self.old.state.stack + 2 * k }
         ensures stack { length self.new.state.stack ≤ length self.old.state.stack + k }
         ensures printed { length self.new.state.out ≤ length self.old.state.out + 4 * k }

@@ -5,6 +5,7 @@ ghost use Rattle.gh_core.specs.Terms.{string};
 ghost use Rattle.gh_core.specs.Reading.{term_of};
 ghost use Rattle.gh_core.specs.Reduce as r;
 ghost use Rattle.gh_core.specs.Run.{start};
+ghost use Rattle.gh_core.specs.Bindings.{binding_count};
 ghost use Rattle.gh_machine.specs.Unload.{IsFine, envs_of, env_in, env_of, closed_in, demanded_in, demand_env, group, binds_in};
 ghost use Rattle.gh_machine.specs.Stacks.{stack_in, waiting_in, env_of_frame, AreWithin};
 ghost use Rattle.gh_machine.specs.Texts.{text_of};
@@ -159,7 +160,7 @@ impl<'a> Parts<'a> {
         requires near { demand_reach demand ≤ self.old.furthest }
         requires far { self.old.furthest < 2 ^ 32 - 1 }
         requires room { vec_len self.old.stack < vec_capacity self.old.stack }
-        ensures { Leads self.old self.new (r.demand (demanded_in (envs_of self.old.cells.items) demand.entry) (waiting_in (envs_of self.old.cells.items) frame.entry ∷ (state_of self.old).stack) (state_of self.old).out) }
+        ensures { Leads 0 self.old self.new (r.demand (demanded_in (envs_of self.old.cells.items) demand.entry) (waiting_in (envs_of self.old.cells.items) frame.entry ∷ (state_of self.old).stack) (state_of self.old).out) }
     {
         push_frame(&mut self.stack, frame);
         self.go(demand);
@@ -173,7 +174,7 @@ impl<'a> Parts<'a> {
         requires near { demand_reach demand ≤ self.old.furthest }
         requires far { self.old.furthest < 2 ^ 32 - 1 }
         requires room { 0 < vec_capacity self.old.stack }
-        ensures leads { Leads self.old self.new (r.demand (demanded_in (envs_of self.old.cells.items) demand.entry) (drop count (state_of self.old).stack) (state_of self.old).out) }
+        ensures leads { Leads 0 self.old self.new (r.demand (demanded_in (envs_of self.old.cells.items) demand.entry) (drop count (state_of self.old).stack) (state_of self.old).out) }
         ensures less { vec_len self.new.cells + vec_len self.new.stack + count ≤ vec_len self.old.cells + vec_len self.old.stack + 1 }
         ensures near { self.new.furthest ≤ self.old.furthest + 1 }
     {
@@ -191,7 +192,7 @@ impl<'a> Parts<'a> {
         requires near_frame { frame_reach frame ≤ self.old.furthest }
         requires near { demand_reach demand ≤ self.old.furthest }
         requires far { self.old.furthest < 2 ^ 32 - 1 }
-        ensures { Leads self.old self.new (r.demand (demanded_in (envs_of self.old.cells.items) demand.entry) (waiting_in (envs_of self.old.cells.items) frame.entry ∷ drop count (state_of self.old).stack) (state_of self.old).out) }
+        ensures { Leads 0 self.old self.new (r.demand (demanded_in (envs_of self.old.cells.items) demand.entry) (waiting_in (envs_of self.old.cells.items) frame.entry ∷ drop count (state_of self.old).stack) (state_of self.old).out) }
     {
         drop_top(&mut self.stack, count);
         push_frame(&mut self.stack, frame);
@@ -203,7 +204,7 @@ impl<'a> Parts<'a> {
         requires held { IsHeld self.old }
         requires within { env ≤ length self.old.cells.items }
         requires room { HasRoom 1 self.old }
-        ensures { Leads self.old self.new (r.demand (close (term_of body.now) (group (binds_in (term_of term.now)) (env_in (envs_of self.old.cells.items) env))) (state_of self.old).stack (state_of self.old).out) }
+        ensures { Leads (binding_count (binds_in (term_of term.now))) self.old self.new (r.demand (close (term_of body.now) (group (binds_in (term_of term.now)) (env_in (envs_of self.old.cells.items) env))) (state_of self.old).stack (state_of self.old).out) }
     {
         let top = bind_group(&mut self.cells, env, term);
         self.go_without(0, Demand::At(Closure::Term(top, body)));
@@ -212,7 +213,7 @@ impl<'a> Parts<'a> {
     /// The run fails.
     pub fn fail(&mut self, cause: StopCause, span: Span)
         requires held { IsHeld self.old }
-        ensures { Leads self.old self.new (r.with_status (r.failed (cause_of cause) span) (state_of self.old)) }
+        ensures { Leads 0 self.old self.new (r.with_status (r.failed (cause_of cause) span) (state_of self.old)) }
     {
         self.turn = Turn::Failed(Stop { cause, span });
     }

@@ -5,10 +5,11 @@ ghost use Rattle.gh_base.specs.declared.place.Origin.{Origin};
 ghost use Rattle.gh_core.specs.Terms.{Term, Alts};
 ghost use Rattle.gh_core.specs.Closing.{Env, close_alts};
 ghost use Rattle.gh_core.specs.Reduce as r;
+ghost use Rattle.gh_core.specs.Bindings.{names_chosen, names_begun, binding_count};
 ghost use Rattle.gh_core.specs.Reading.{term_of, alt_of};
 ghost use Rattle.gh_machine.specs.Unload.{alts_in, binds_in, body_in, bound_at, scrutinee_in, first_con};
 ghost use Rattle.gh_machine.specs.Values.{literal_of};
-ghost use Rattle.gh_machine.specs.Picks.{goes_on, plain_on, HasNames, fits_con, fits_literal, alt_names, alt_body, IsDemanding, IsOnNewtype};
+ghost use Rattle.gh_machine.specs.Picks.{goes_on, picked_names, plain_on, HasNames, fits_con, fits_literal, alt_names, alt_body, IsDemanding, IsOnNewtype};
 
 use crate::primitive::{Literal, prelude_value};
 use gh_base::Origin;
@@ -30,6 +31,7 @@ pub enum Picked<'a> {
 /// The first alternative for a constructor with so many arguments.
 pub fn pick_con<'a>(case: &'a ErasedTerm, con: Origin, count: usize) -> Picked<'a>
     ensures is { (ρ : Env) (es : List Term) (stack : List r.Waiting) (out : List ℕ) (s : r.State) → length es ≡ count → r.choose (close_alts (alts_in (term_of case.now)) ρ) con es stack out s ≡ goes_on result ρ es stack out s }
+    ensures bound { (ρ : Env) (es : List Term) → length es ≡ count → names_chosen (close_alts (alts_in (term_of case.now)) ρ) con es ≡ picked_names result }
     ensures names { HasNames count result }
 {
     let ErasedTerm::Case(_, alternatives, other) = case else {
@@ -125,7 +127,8 @@ pub struct Single<'a> {
 
 /// The first alternative of a case, where it has a newtype's constructor with one name.
 pub fn on_newtype<'a>(newtypes: &[Origin], case: &'a ErasedTerm) -> Option<Single<'a>>
-    ensures { MatchOption result (IsDemanding newtypes.now (term_of case.now)) (λ one. IsOnNewtype newtypes.now (term_of case.now) one) }
+    ensures is { MatchOption result (IsDemanding newtypes.now (term_of case.now)) (λ one. IsOnNewtype newtypes.now (term_of case.now) one) }
+    ensures bound { MatchOption result Unit (λ one. (ρ : Env) → names_begun newtypes.now (close_alts (alts_in (term_of case.now)) ρ) ≡ 1) }
 {
     let ErasedTerm::Case(_, alternatives, _) = case else {
         return None;
@@ -181,6 +184,16 @@ pub fn scrutinee_of(case: &ErasedTerm) -> &ErasedTerm
     match case {
         ErasedTerm::Case(scrutinee, _, _) => scrutinee.get(),
         _ => case,
+    }
+}
+
+/// How many bindings a `letrec` has.
+pub fn count_bindings(term: &ErasedTerm) -> usize
+    ensures { result ≡ binding_count (binds_in (term_of term.now)) }
+{
+    match term {
+        ErasedTerm::LetRec(bindings, _) => bindings.as_slice().len(),
+        _ => 0,
     }
 }
 

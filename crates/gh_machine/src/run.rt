@@ -1,5 +1,6 @@
 // One reduction after another.
-ghost use Rattle.std.specs.Prelude.{◌≡◌, ◌+◌, ℕ};
+ghost use Rattle.std.specs.Prelude.{◌≡◌, ◌+◌, ◌≤◌, ℕ, length};
+ghost use Rattle.gh_core.specs.Bindings.{names_bound_in};
 ghost use Rattle.gh_core.specs.Reduce as r;
 ghost use Rattle.gh_machine.specs.Grown.{Grows};
 ghost use Rattle.gh_machine.specs.Sound.{state_of, program_in, IsHeld, HasRoom};
@@ -18,6 +19,7 @@ impl<'a> Parts<'a> {
         ensures program { self.new.program ≡ self.old.program }
         ensures room { (n : ℕ) → HasRoom (k + n) self.old → HasRoom n self.new }
         ensures grows { Grows k self.old self.new }
+        ensures names { length self.new.cells.items ≤ length self.old.cells.items + names_bound_in (program_in self.old) k (state_of self.old) }
     {
         for _ in 0..k {
             match self.turn {

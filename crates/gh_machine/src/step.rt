@@ -5,6 +5,7 @@ ghost use Rattle.gh_core.specs.Closing.{close, close_alts, without, is_in, put_a
 ghost use Rattle.gh_core.specs.Primitives as p;
 ghost use Rattle.gh_core.specs.Reading.{term_of, defs_of};
 ghost use Rattle.gh_core.specs.Reduce as r;
+ghost use Rattle.gh_core.specs.Bindings as b;
 ghost use Rattle.gh_machine.specs.Unload.{envs_of, env_in, demanded_in, demand_env, alts_in, scrutinee_in, IsFree, env_of, closed_in};
 ghost use Rattle.gh_machine.specs.Texts.{text_of};
 ghost use Rattle.gh_machine.specs.Reach.{reach_of, text_reach, demand_reach};
@@ -35,7 +36,7 @@ impl<'a> Parts<'a> {
         requires held { IsHeld self.old }
         requires within { env ≤ length self.old.cells.items }
         requires room { HasRoom 1 self.old }
-        ensures { Leads self.old self.new (r.enter name (close (term_of body.now) (without (env_in (envs_of self.old.cells.items) env) (λ y. y == name))) (state_of self.old).stack (state_of self.old).out (state_of self.old)) }
+        ensures { Leads (b.names_entered (state_of self.old).stack) self.old self.new (r.enter name (close (term_of body.now) (without (env_in (envs_of self.old.cells.items) env) (λ y. y == name))) (state_of self.old).stack (state_of self.old).out (state_of self.old)) }
     {
         if let Some(value) = arg_at(&self.stack, 0) {
             let top = bind(&mut self.cells, name, env, value);
@@ -47,7 +48,7 @@ impl<'a> Parts<'a> {
     fn unfold(&mut self, name: CoreName)
         requires held { IsHeld self.old }
         requires room { HasRoom 1 self.old }
-        ensures { Leads self.old self.new (r.unfold_global (r.defined (program_in self.old).defs name) (state_of self.old).stack (state_of self.old).out (state_of self.old)) }
+        ensures { Leads 0 self.old self.new (r.unfold_global (r.defined (program_in self.old).defs name) (state_of self.old).stack (state_of self.old).out (state_of self.old)) }
     {
         if let Some(term) = self.program.definition(name) {
             self.go_without(0, Demand::At(Closure::Term(0, term)));
@@ -59,7 +60,7 @@ impl<'a> Parts<'a> {
         requires held { IsHeld self.old }
         requires within { env ≤ length self.old.cells.items }
         requires room { HasRoom 1 self.old }
-        ensures { Leads self.old self.new (r.begin_case self.old.program.newtypes (close (scrutinee_in (term_of case.now)) (env_in (envs_of self.old.cells.items) env)) (close_alts (alts_in (term_of case.now)) (env_in (envs_of self.old.cells.items) env)) (state_of self.old).stack (state_of self.old).out) }
+        ensures { Leads (b.names_begun self.old.program.newtypes (close_alts (alts_in (term_of case.now)) (env_in (envs_of self.old.cells.items) env))) self.old self.new (r.begin_case self.old.program.newtypes (close (scrutinee_in (term_of case.now)) (env_in (envs_of self.old.cells.items) env)) (close_alts (alts_in (term_of case.now)) (env_in (envs_of self.old.cells.items) env)) (state_of self.old).stack (state_of self.old).out) }
     {
         match on_newtype(self.program.newtypes(), case) {
             Some(one) => {
@@ -77,7 +78,7 @@ impl<'a> Parts<'a> {
     fn give(&mut self, con: Origin)
         requires held { IsHeld self.old }
         requires room { HasRoom 1 self.old }
-        ensures { Leads self.old self.new (r.give con (r.args_of (state_of self.old).stack) (r.after_args (state_of self.old).stack) (state_of self.old).out (state_of self.old)) }
+        ensures { Leads (b.names_given con (r.args_of (state_of self.old).stack) (r.after_args (state_of self.old).stack)) self.old self.new (r.give con (r.args_of (state_of self.old).stack) (r.after_args (state_of self.old).stack) (state_of self.old).out (state_of self.old)) }
     {
         let count = count_args(&self.stack);
         match frame_at(&self.stack, count) {
@@ -102,7 +103,7 @@ impl<'a> Parts<'a> {
         requires one { length (r.args_of (state_of self.old).stack) ≡ 1 }
         requires room { HasRoom 1 self.old }
         requires two { 2 ≤ vec_len self.old.stack }
-        ensures { Leads self.old self.new (r.uncover true (r.args_of (state_of self.old).stack) (drop 2 (state_of self.old).stack) (state_of self.old).out (state_of self.old)) }
+        ensures { Leads 0 self.old self.new (r.uncover true (r.args_of (state_of self.old).stack) (drop 2 (state_of self.old).stack) (state_of self.old).out (state_of self.old)) }
     {
         match arg_at(&self.stack, 0) {
             Some(value) => self.go_without(2, Demand::At(value)),
@@ -117,7 +118,7 @@ impl<'a> Parts<'a> {
         requires some { count < vec_len self.old.stack }
         requires within { env ≤ length self.old.cells.items }
         requires room { HasRoom 1 self.old }
-        ensures { Leads self.old self.new (r.choose (close_alts (alts_in (term_of case.now)) (env_in (envs_of self.old.cells.items) env)) con (r.args_of (state_of self.old).stack) (drop (count + 1) (state_of self.old).stack) (state_of self.old).out (state_of self.old)) }
+        ensures { Leads (b.names_chosen (close_alts (alts_in (term_of case.now)) (env_in (envs_of self.old.cells.items) env)) con (r.args_of (state_of self.old).stack)) self.old self.new (r.choose (close_alts (alts_in (term_of case.now)) (env_in (envs_of self.old.cells.items) env)) con (r.args_of (state_of self.old).stack) (drop (count + 1) (state_of self.old).stack) (state_of self.old).out (state_of self.old)) }
     {
         match pick_con(case, con, count) {
             Picked::Bound(names, body) => self.take_args(names, env, body),
@@ -133,7 +134,7 @@ impl<'a> Parts<'a> {
         requires some { length names.now < vec_len self.old.stack }
         requires within { env ≤ length self.old.cells.items }
         requires room { HasRoom 1 self.old }
-        ensures { Leads self.old self.new (r.demand (close (close (term_of body.now) (without (env_in (envs_of self.old.cells.items) env) (is_in names.now))) (put_all empty names.now (r.args_of (state_of self.old).stack))) (drop (length names.now + 1) (state_of self.old).stack) (state_of self.old).out) }
+        ensures { Leads (length names.now) self.old self.new (r.demand (close (close (term_of body.now) (without (env_in (envs_of self.old.cells.items) env) (is_in names.now))) (put_all empty names.now (r.args_of (state_of self.old).stack))) (drop (length names.now + 1) (state_of self.old).stack) (state_of self.old).out) }
     {
         let top = bind_args(&mut self.cells, names, &self.stack, env);
         self.go_without(names.len() + 1, Demand::At(Closure::Term(top, body)));
@@ -144,7 +145,7 @@ impl<'a> Parts<'a> {
         requires held { IsHeld self.old }
         requires near { text_reach text ≤ self.old.furthest }
         requires room { HasRoom 1 self.old }
-        ensures { Leads self.old self.new (r.give (r.string_con (text_of text.entry)) (r.string_args (text_of text.entry)) (state_of self.old).stack (state_of self.old).out (state_of self.old)) }
+        ensures { Leads (b.names_given (r.string_con (text_of text.entry)) (r.string_args (text_of text.entry)) (state_of self.old).stack) self.old self.new (r.give (r.string_con (text_of text.entry)) (r.string_args (text_of text.entry)) (state_of self.old).stack (state_of self.old).out (state_of self.old)) }
     {
         match frame_at(&self.stack, 0) {
             Some(Frame::OfCase(env, case)) => match split(text) {
@@ -167,7 +168,7 @@ impl<'a> Parts<'a> {
         requires some { 0 < vec_len self.old.stack }
         requires within { env ≤ length self.old.cells.items }
         requires room { HasRoom 1 self.old }
-        ensures { Leads self.old self.new (r.choose (close_alts (alts_in (term_of case.now)) (env_in (envs_of self.old.cells.items) env)) p.nil [] (drop 1 (state_of self.old).stack) (state_of self.old).out (state_of self.old)) }
+        ensures { Leads (b.names_chosen (close_alts (alts_in (term_of case.now)) (env_in (envs_of self.old.cells.items) env)) p.nil []) self.old self.new (r.choose (close_alts (alts_in (term_of case.now)) (env_in (envs_of self.old.cells.items) env)) p.nil [] (drop 1 (state_of self.old).stack) (state_of self.old).out (state_of self.old)) }
     {
         match pick_con(case, prelude_value(NIL), 0) {
             Picked::Bound(_, body) => self.go_without(1, Demand::At(Closure::Term(env, body))),
@@ -186,7 +187,7 @@ impl<'a> Parts<'a> {
         requires near_first { reach_of pair.first ≤ self.old.furthest }
         requires near_rest { reach_of pair.rest ≤ self.old.furthest + 1 }
         requires room { HasRoom 1 self.old }
-        ensures { Leads self.old self.new (r.choose (close_alts (alts_in (term_of case.now)) (env_in (envs_of self.old.cells.items) env)) p.cons (closed_in (envs_of self.old.cells.items) pair.entry.first ∷ closed_in (envs_of self.old.cells.items) pair.entry.rest ∷ []) (drop 1 (state_of self.old).stack) (state_of self.old).out (state_of self.old)) }
+        ensures { Leads (b.names_chosen (close_alts (alts_in (term_of case.now)) (env_in (envs_of self.old.cells.items) env)) p.cons (closed_in (envs_of self.old.cells.items) pair.entry.first ∷ closed_in (envs_of self.old.cells.items) pair.entry.rest ∷ [])) self.old self.new (r.choose (close_alts (alts_in (term_of case.now)) (env_in (envs_of self.old.cells.items) env)) p.cons (closed_in (envs_of self.old.cells.items) pair.entry.first ∷ closed_in (envs_of self.old.cells.items) pair.entry.rest ∷ []) (drop 1 (state_of self.old).stack) (state_of self.old).out (state_of self.old)) }
     {
         match pick_con(case, prelude_value(CONS), 2) {
             Picked::Bound(names, body) => self.take_pair(names[0], names[1], pair, env, body),
@@ -205,7 +206,7 @@ impl<'a> Parts<'a> {
         requires near_first { reach_of pair.first ≤ self.old.furthest }
         requires near_rest { reach_of pair.rest ≤ self.old.furthest + 1 }
         requires room { HasRoom 1 self.old }
-        ensures { Leads self.old self.new (r.demand (close (term_of body.now) (put_all (env_in (envs_of self.old.cells.items) env) (x ∷ y ∷ []) (closed_in (envs_of self.old.cells.items) pair.entry.first ∷ closed_in (envs_of self.old.cells.items) pair.entry.rest ∷ []))) (drop 1 (state_of self.old).stack) (state_of self.old).out) }
+        ensures { Leads 2 self.old self.new (r.demand (close (term_of body.now) (put_all (env_in (envs_of self.old.cells.items) env) (x ∷ y ∷ []) (closed_in (envs_of self.old.cells.items) pair.entry.first ∷ closed_in (envs_of self.old.cells.items) pair.entry.rest ∷ []))) (drop 1 (state_of self.old).stack) (state_of self.old).out) }
     {
         self.furthest = further(self.furthest, pair.rest);
         let below = bind(&mut self.cells, y, env, pair.rest);
@@ -217,7 +218,7 @@ impl<'a> Parts<'a> {
     fn operate(&mut self, prim: Origin, place: Span)
         requires held { IsHeld self.old }
         requires room { HasRoom 1 self.old }
-        ensures { Leads self.old self.new (r.operate (p.named p.primitives prim) place (r.args_of (state_of self.old).stack) (state_of self.old).stack (state_of self.old).out (state_of self.old)) }
+        ensures { Leads 0 self.old self.new (r.operate (p.named p.primitives prim) place (r.args_of (state_of self.old).stack) (state_of self.old).stack (state_of self.old).out (state_of self.old)) }
     {
         let Some(primitive) = primitive_named(prim) else {
             return;
@@ -244,7 +245,7 @@ impl<'a> Parts<'a> {
     fn supply(&mut self, literal: Literal)
         requires held { IsHeld self.old }
         requires room { HasRoom 1 self.old }
-        ensures { Leads self.old self.new (r.supply (literal_of literal) (state_of self.old).stack (state_of self.old).out (state_of self.old)) }
+        ensures { Leads 0 self.old self.new (r.supply (literal_of literal) (state_of self.old).stack (state_of self.old).out (state_of self.old)) }
     {
         match frame_at(&self.stack, 0) {
             Some(Frame::OfCase(env, case)) => self.choose_literal(literal, env, case),
@@ -270,7 +271,7 @@ impl<'a> Parts<'a> {
         requires some { 0 < vec_len self.old.stack }
         requires within { env ≤ length self.old.cells.items }
         requires room { HasRoom 1 self.old }
-        ensures { Leads self.old self.new (r.choose_literal (close_alts (alts_in (term_of case.now)) (env_in (envs_of self.old.cells.items) env)) (literal_of literal) (drop 1 (state_of self.old).stack) (state_of self.old).out (state_of self.old)) }
+        ensures { Leads 0 self.old self.new (r.choose_literal (close_alts (alts_in (term_of case.now)) (env_in (envs_of self.old.cells.items) env)) (literal_of literal) (drop 1 (state_of self.old).stack) (state_of self.old).out (state_of self.old)) }
     {
         match pick_literal(case, literal) {
             Some(body) => self.go_without(1, Demand::At(Closure::Term(env, body))),
@@ -283,7 +284,7 @@ impl<'a> Parts<'a> {
         requires held { IsHeld self.old }
         requires some { 0 < vec_len self.old.stack }
         requires room { HasRoom 1 self.old }
-        ensures { Leads self.old self.new (r.conclude (outcome_of outcome) place (drop 1 (state_of self.old).stack) (state_of self.old).out (state_of self.old)) }
+        ensures { Leads 0 self.old self.new (r.conclude (outcome_of outcome) place (drop 1 (state_of self.old).stack) (state_of self.old).out (state_of self.old)) }
     {
         match outcome {
             Outcome::Value(literal) => self.go_without(1, Demand::Value(literal)),
@@ -301,7 +302,7 @@ impl<'a> Parts<'a> {
         requires within { env_of rest ≤ length self.old.cells.items }
         requires near { reach_of rest ≤ self.old.furthest }
         requires room { HasRoom 1 self.old }
-        ensures { Leads self.old self.new (r.print (literal_of literal) (closed_in (envs_of self.old.cells.items) rest.entry) (drop 1 (state_of self.old).stack) (state_of self.old).out (state_of self.old)) }
+        ensures { Leads 0 self.old self.new (r.print (literal_of literal) (closed_in (envs_of self.old.cells.items) rest.entry) (drop 1 (state_of self.old).stack) (state_of self.old).out (state_of self.old)) }
     {
         if let Literal::Char(c) = literal {
             push_char(&mut self.pending, c);
@@ -315,7 +316,7 @@ impl<'a> Parts<'a> {
         requires within { env ≤ length self.old.cells.items }
         requires free { IsFree (envs_of self.old.cells.items) (Demand.At (Closure.Term env term)) }
         requires room { HasRoom 1 self.old }
-        ensures { Leads self.old self.new (r.reduce_at (program_in self.old) (r.opened (close (term_of term.now) (env_in (envs_of self.old.cells.items) env))) (state_of self.old).stack (state_of self.old).out (state_of self.old)) }
+        ensures { Leads (b.names_at (program_in self.old) (r.opened (close (term_of term.now) (env_in (envs_of self.old.cells.items) env))) (state_of self.old).stack) self.old self.new (r.reduce_at (program_in self.old) (r.opened (close (term_of term.now) (env_in (envs_of self.old.cells.items) env))) (state_of self.old).stack (state_of self.old).out (state_of self.old)) }
     {
         match term {
             ErasedTerm::Var(_) => {}
@@ -343,7 +344,7 @@ impl<'a> Parts<'a> {
         requires near { reach_of value ≤ self.old.furthest }
         requires free { IsFree (envs_of self.old.cells.items) (Demand.At value) }
         requires room { HasRoom 1 self.old }
-        ensures { Leads self.old self.new (r.reduce_at (program_in self.old) (r.opened (closed_in (envs_of self.old.cells.items) value.entry)) (state_of self.old).stack (state_of self.old).out (state_of self.old)) }
+        ensures { Leads (b.names_at (program_in self.old) (r.opened (closed_in (envs_of self.old.cells.items) value.entry)) (state_of self.old).stack) self.old self.new (r.reduce_at (program_in self.old) (r.opened (closed_in (envs_of self.old.cells.items) value.entry)) (state_of self.old).stack (state_of self.old).out (state_of self.old)) }
     {
         match value {
             Closure::Term(env, term) => self.act_term(env, term),
@@ -365,7 +366,7 @@ impl<'a> Parts<'a> {
         requires near { demand_reach demand ≤ self.old.furthest }
         requires free { IsFree (envs_of self.old.cells.items) demand }
         requires room { HasRoom 1 self.old }
-        ensures { Leads self.old self.new (r.reduce_at (program_in self.old) (r.opened (demanded_in (envs_of self.old.cells.items) demand.entry)) (state_of self.old).stack (state_of self.old).out (state_of self.old)) }
+        ensures { Leads (b.names_at (program_in self.old) (r.opened (demanded_in (envs_of self.old.cells.items) demand.entry)) (state_of self.old).stack) self.old self.new (r.reduce_at (program_in self.old) (r.opened (demanded_in (envs_of self.old.cells.items) demand.entry)) (state_of self.old).stack (state_of self.old).out (state_of self.old)) }
     {
         match demand {
             Demand::At(value) => self.act_at(value),
@@ -380,7 +381,7 @@ impl<'a> Parts<'a> {
         requires held { IsHeld self.old }
         requires running { status_of self.old.turn ≡ r.running }
         requires room { HasRoom 1 self.old }
-        ensures { Leads self.old self.new (r.reduce (program_in self.old) (state_of self.old)) }
+        ensures { Leads (b.names_bound (program_in self.old) (state_of self.old)) self.old self.new (r.reduce (program_in self.old) (state_of self.old)) }
     {
         let demand = resolve(&self.cells, self.demand);
         self.act(demand);

@@ -1,4 +1,6 @@
 use Rattle.std.proofs.Common.{◌+◌, ◌-◌, ◌*◌, ◌≤◌, length, arith, subst, sym}
+use Rattle.gh_core.specs.Run.{program_of}
+use Rattle.gh_core.specs.Bindings.{names_bound_in}
 use Rattle.gh_machine.specs.Codes.{Seen}
 use Rattle.gh_machine.specs.Sound.{state_of}
 use Rattle.gh_machine.proofs.Runs.{less_room, grown_state}
@@ -20,3 +22,7 @@ pub returns-clause-stack : goal.returns-clause-stack
 returns-clause-stack c =
     let q = c.steps.new.self in
     subst (λ (v : Seen). length (state_of q).stack ≤ length v.state.stack + c.args.k) c.self.view_is (grown_state c.args.k c.self.inside.parts q c.steps.ensures.grows).1
+
+pub returns-clause-names : goal.returns-clause-names
+returns-clause-names c =
+    subst (λ (v : Seen). length c.steps.new.self.cells.items ≤ v.cells + names_bound_in (program_of v.program) c.args.k v.state) c.self.view_is c.steps.ensures.names

@@ -1,8 +1,9 @@
-use Rattle.std.proofs.Common.{◌∷◌, [], refl, sym, ap, ◌∙◌, arith, subst}
+use Rattle.std.proofs.Common.{◌≡◌, ◌∷◌, [], refl, sym, ap, ◌∙◌, arith, subst}
 use Rattle.gh_core.specs.Reading.{term_of}
-use Rattle.gh_core.specs.Closing.{close, put}
+use Rattle.gh_core.specs.Closing.{Env, close, close_alts, put}
 use Rattle.gh_core.specs.Reduce.{demand}
-use Rattle.gh_machine.specs.Unload.{envs_of, env_in, contents_in}
+use Rattle.gh_core.specs.Bindings.{names_begun}
+use Rattle.gh_machine.specs.Unload.{envs_of, env_in, alts_in, contents_in}
 use Rattle.gh_machine.specs.Stacks.{stack_in}
 use Rattle.gh_machine.specs.Picks.{IsOnNewtype}
 use Rattle.gh_machine.proofs.Entered.{close_chosen}
@@ -21,6 +22,7 @@ returns-in-Some c =
     let one = c.in-Some.one in
     let b = term_of one.body.now in
     let v = close (contents_in T) ρ in
-    let on = subst (λ nt. IsOnNewtype nt T one) c.newtypes.ensures c.in-Some.ensures in
-    led_bound p (record { program = p.program; cells = c.bind-top.new.cells; stack = p.stack; demand = p.demand; turn = p.turn; pending = p.pending; furthest = p.furthest }) c.go_without.new.self 0 c.bind-top.result b (put ρ one.name v) _ c.requires.held c.bind-top.ensures.bound refl refl refl (omega arith) c.go_without.ensures.leads (omega (arith, c.go_without.ensures.less, c.bind-top.ensures.len)) (omega (arith, c.go_without.ensures.near))
+    let on = subst (λ nt. IsOnNewtype nt T one) c.newtypes.ensures c.in-Some.ensures.is in
+    let bound = subst (λ nt. (σ : Env) → names_begun nt (close_alts (alts_in T) σ) ≡ 1) c.newtypes.ensures c.in-Some.ensures.bound in
+    led_bound p (record { program = p.program; cells = c.bind-top.new.cells; stack = p.stack; demand = p.demand; turn = p.turn; pending = p.pending; furthest = p.furthest }) c.go_without.new.self 0 c.bind-top.result b (put ρ one.name v) _ c.requires.held c.bind-top.ensures.bound refl refl refl (omega arith) c.go_without.ensures.leads (omega (arith, c.go_without.ensures.leads.cells, c.bind-top.ensures.len, bound ρ)) (omega (arith, c.go_without.ensures.less, c.bind-top.ensures.len)) (omega (arith, c.go_without.ensures.near))
     (sym (on ρ ws p.pending.items ∙ ap (λ t. demand t ws p.pending.items) (close_chosen b ρ (one.name ∷ []) (v ∷ []) refl)))

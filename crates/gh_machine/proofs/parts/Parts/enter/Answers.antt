@@ -1,7 +1,8 @@
-use Rattle.std.proofs.Common.{◌≡◌, ◌∷◌, length, [], drop, refl, sym, arith, subst}
+use Rattle.std.proofs.Common.{◌≡◌, ◌∷◌, length, [], drop, refl, sym, ap, arith, subst}
 use Rattle.gh_core.specs.Reading.{term_of}
 use Rattle.gh_core.specs.Closing.{put}
 use Rattle.gh_core.specs.Reduce.{arg}
+use Rattle.gh_core.specs.Bindings.{names_entered}
 use Rattle.gh_machine.specs.Unload.{envs_of, env_in, closed_in}
 use Rattle.gh_machine.specs.Stacks.{stack_in, AreWithin}
 use Rattle.gh_machine.specs.Reach.{AreNear}
@@ -28,5 +29,5 @@ returns-in-Some c =
     let v = c.in-Some.value in
     let ws = stack_in envs [] p.stack.items in
     let is = subst (λ gs. stack_in envs [] gs ≡ arg (closed_in envs v) ∷ drop 1 (stack_in envs [] gs)) c.deref.ensures.value (c.in-Some.ensures.value envs) in
-    led_bound p (record { program = c.args.self.now.program; cells = c.bind-top.new.cells; stack = c.args.self.now.stack; demand = c.args.self.now.demand; turn = c.args.self.now.turn; pending = c.args.self.now.pending; furthest = c.args.self.now.furthest }) c.go_without.new.self 1 c.bind-top.result (term_of c.args.body.now) (put ρ c.args.name (closed_in envs v)) _ c.requires.held c.bind-top.ensures.bound refl refl refl (omega arith) c.go_without.ensures.leads (omega (arith, c.go_without.ensures.less, c.bind-top.ensures.len)) (omega (arith, c.go_without.ensures.near))
+    led_bound p (record { program = c.args.self.now.program; cells = c.bind-top.new.cells; stack = c.args.self.now.stack; demand = c.args.self.now.demand; turn = c.args.self.now.turn; pending = c.args.self.now.pending; furthest = c.args.self.now.furthest }) c.go_without.new.self 1 c.bind-top.result (term_of c.args.body.now) (put ρ c.args.name (closed_in envs v)) _ c.requires.held c.bind-top.ensures.bound refl refl refl (omega arith) c.go_without.ensures.leads (omega (arith, c.go_without.ensures.leads.cells, c.bind-top.ensures.len, ap names_entered is)) (omega (arith, c.go_without.ensures.less, c.bind-top.ensures.len)) (omega (arith, c.go_without.ensures.near))
     (entered c.args.name (term_of c.args.body.now) ρ (closed_in envs v) ws (drop 1 ws) p.pending.items (state_of p) is)

@@ -1,6 +1,7 @@
-use Rattle.std.proofs.Common.{◌≡◌, ◌≤◌, ◌+◌, [], drop, length, sym, subst, ap, ◌∙◌, true, false}
+use Rattle.std.proofs.Common.{arith, ◌≡◌, ◌≤◌, ◌+◌, [], drop, length, sym, subst, ap, ◌∙◌, true, false}
 use Rattle.gh_core.specs.Primitives.{same_origin}
 use Rattle.gh_core.specs.Reduce.{give, args_of}
+use Rattle.gh_core.specs.Bindings.{names_given}
 use Rattle.gh_machine.specs.Unload.{envs_of}
 use Rattle.gh_machine.specs.Stacks.{AreWithin, env_of_frame, stack_in}
 use Rattle.gh_machine.specs.Sound.{state_of}
@@ -23,7 +24,7 @@ returns-in-Some-OfCase c =
     let ws = stack_in envs [] fs in
     let n = c.count_args-count.result in
     let after = behind_frame envs fs c.deref.result.now c.deref-2.result.now n c.in-Some-OfCase.field-0 (OfCase c.in-Some-OfCase.env c.in-Some-OfCase.case) c.deref.ensures.value c.deref-2.ensures.value (c.count_args-count.ensures.count envs) (c.in-Some-OfCase.ensures.value envs) c.in-Some-OfCase.field-0-is in
-    leads_to p c.choose.new.self _ _ c.choose.ensures (sym (ap (λ us. give c.args.con (args_of ws) us p.pending.items (state_of p)) after))
+    leads_to p c.choose.new.self _ _ c.choose.ensures (omega (arith, ap (λ us. names_given c.args.con (args_of ws) us) after)) (sym (ap (λ us. give c.args.con (args_of ws) us p.pending.items (state_of p)) after))
 
 pub returns-else-count-eq1 : goal.returns-else-count-eq1
 returns-else-count-eq1 c =

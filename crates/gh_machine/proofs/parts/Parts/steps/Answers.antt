@@ -1,7 +1,7 @@
 use Rattle.std.proofs.Common.{◌+◌, ap, arith}
 use Rattle.gh_machine.specs.Sound.{program_in, state_of}
 use Rattle.gh_machine.specs.Values.{status_of, cause_of}
-use Rattle.gh_machine.proofs.Runs.{run_none, run_more, less_room, grown_less, run_over, stays_ended, stays_failed}
+use Rattle.gh_machine.proofs.Runs.{run_none, run_more, less_room, grown_less, names_less, run_over, stays_ended, stays_failed}
 use Rattle.gh_machine.proofs.parts.Parts.steps.Goals as goal
 
 pub loop-init : goal.loop-init
@@ -35,3 +35,9 @@ loop-preserved c = run_more c.loop.counter c.args.self.now c.loop.self c.step.ne
 
 pub returns-clause-room : goal.returns-clause-room
 returns-clause-room c = λ n h. c.loop.invariant.room n (less_room (c.args.k + n) (c.loop.counter + n) c.args.self.now (omega arith) h)
+
+pub returns-in-Ended-clause-names : goal.returns-in-Ended-clause-names
+returns-in-Ended-clause-names c = names_less c.loop.counter c.args.k c.args.self.now c.loop.self (omega arith) c.loop.invariant
+
+pub returns-in-Failed-clause-names : goal.returns-in-Failed-clause-names
+returns-in-Failed-clause-names c = names_less c.loop.counter c.args.k c.args.self.now c.loop.self (omega arith) c.loop.invariant

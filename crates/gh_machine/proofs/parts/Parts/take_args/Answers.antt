@@ -30,5 +30,5 @@ returns c =
     let xs = c.args.names.now in
     let ws = stack_in envs [] p.stack.items in
     let b = subst (λ gs. IsBound p.cells.items c.bind_args-top.new.cells.items c.bind_args-top.result (put_all ρ xs (args_of (stack_in envs [] gs)))) c.deref.ensures.value c.bind_args-top.ensures.bound in
-    led_bound p (record { program = c.args.self.now.program; cells = c.bind_args-top.new.cells; stack = c.args.self.now.stack; demand = c.args.self.now.demand; turn = c.args.self.now.turn; pending = c.args.self.now.pending; furthest = c.args.self.now.furthest }) c.go_without.new.self (length xs + 1) c.bind_args-top.result (term_of c.args.body.now) (put_all ρ xs (args_of ws)) _ c.requires.held b refl refl refl (omega arith) c.go_without.ensures.leads (omega (arith, c.go_without.ensures.less, c.bind_args-top.ensures.len)) (omega (arith, c.go_without.ensures.near))
+    led_bound p (record { program = c.args.self.now.program; cells = c.bind_args-top.new.cells; stack = c.args.self.now.stack; demand = c.args.self.now.demand; turn = c.args.self.now.turn; pending = c.args.self.now.pending; furthest = c.args.self.now.furthest }) c.go_without.new.self (length xs + 1) c.bind_args-top.result (term_of c.args.body.now) (put_all ρ xs (args_of ws)) _ c.requires.held b refl refl refl (omega arith) c.go_without.ensures.leads (omega (arith, c.go_without.ensures.leads.cells, c.bind_args-top.ensures.len)) (omega (arith, c.go_without.ensures.less, c.bind_args-top.ensures.len)) (omega (arith, c.go_without.ensures.near))
     (ap (λ t. demand t (drop (length xs + 1) ws) p.pending.items) (sym (close_chosen (term_of c.args.body.now) ρ xs (args_of ws) (sym c.requires.names))))

@@ -20,4 +20,4 @@ pub returns : goal.returns
 returns c =
     let p = c.args.self.now in
     let le : env_of c.args.pair.first ≤ length p.cells.items = omega (arith, c.requires.first) in
-    led_bound p (record { program = c.args.self.now.program; cells = c.bind-top.new.cells; stack = c.args.self.now.stack; demand = c.args.self.now.demand; turn = c.args.self.now.turn; pending = c.args.self.now.pending; furthest = c.further-self.result }) c.go_without.new.self 1 c.bind-top.result (term_of c.args.body.now) _ _ c.requires.held (bound_two _ _ _ _ _ _ _ _ c.bind-below.ensures.bound c.bind-top.ensures.bound le) refl refl refl (omega arith) c.go_without.ensures.leads (omega (arith, c.go_without.ensures.less, c.bind-below.ensures.len, c.bind-top.ensures.len)) (omega (arith, c.go_without.ensures.near, c.further-self.ensures.most (p.furthest + 1) (omega arith) c.requires.near_rest)) refl
+    led_bound p (record { program = c.args.self.now.program; cells = c.bind-top.new.cells; stack = c.args.self.now.stack; demand = c.args.self.now.demand; turn = c.args.self.now.turn; pending = c.args.self.now.pending; furthest = c.further-self.result }) c.go_without.new.self 1 c.bind-top.result (term_of c.args.body.now) _ _ c.requires.held (bound_two _ _ _ _ _ _ _ _ c.bind-below.ensures.bound c.bind-top.ensures.bound le) refl refl refl (omega arith) c.go_without.ensures.leads (omega (arith, c.go_without.ensures.leads.cells, c.bind-below.ensures.len, c.bind-top.ensures.len)) (omega (arith, c.go_without.ensures.less, c.bind-below.ensures.len, c.bind-top.ensures.len)) (omega (arith, c.go_without.ensures.near, c.further-self.ensures.most (p.furthest + 1) (omega arith) c.requires.near_rest)) refl
