@@ -172,7 +172,7 @@ for steps in (250000, 500000, 1000000, 2000000):
     print(f"  {steps:>9} reductions  {ms:9.1f} ms   {steps / ms / 1000:6.2f} million a second   {peak(run) / 2 ** 20:8.1f} MiB")
 print()
 
-print("the machine, 2000000 reductions: a counting loop, a list of 100000 cells, a list printed without end, deep unevaluated terms")
-for shape in ("loop", "list", "print", "deep"):
+print("the machine, 2000000 reductions: a counting loop, a list of 100000 cells, a list printed without end, deep unevaluated terms, a stack that grows")
+for shape in ("loop", "list", "print", "deep", "stack"):
     ms = best([MACHINE, shape])
     print(f"  {shape:>9}  {ms:9.1f} ms   {2000 / ms:6.2f} million a second   {peak([MACHINE, shape]) / 2 ** 20:8.1f} MiB")

@@ -13,8 +13,6 @@ mod run;
 mod stack;
 mod step;
 mod table;
-#[cfg(test)]
-mod tests;
 mod text;
 mod turn;
 

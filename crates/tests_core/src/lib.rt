@@ -16,6 +16,8 @@ mod groups;
 #[cfg(test)]
 mod kernel;
 #[cfg(test)]
+mod machine;
+#[cfg(test)]
 mod outside;
 #[cfg(test)]
 mod struct_rep;

@@ -1,13 +1,13 @@
 // Runs worked out by hand, cut at every number of reductions.
 ghost use Rattle.std.specs.Prelude.{◌≤◌, ◌<◌, ◌+◌, length};
 
-use crate::{Machine, Stop, StopCause, Turn};
 use gh_base::fixed::{
     CHR, CON, CONS, EQ_CHAR, EQUAL, ERROR, FALSE, LESS, MAIN, MAIN_MODULE, MINUS, NIL, ORD, PLUS,
     PRELUDE, QUOT, REM, SHOW_INT, TIMES, TRUE,
 };
 use gh_base::{ListOf, NameId, NoMemory, Origin, Space, Span};
 use gh_core::{CoreName, Erased, ErasedAlt, ErasedTerm};
+use gh_machine::{Machine, Stop, StopCause, Turn};
 use sqlite_items::Boxed;
 use std::alloc::Global;
 use std::process::Abort;
