@@ -1,5 +1,6 @@
 pub mod Applied
 pub mod Blaming
+pub mod Bound
 pub mod Chosen
 pub mod Codes
 pub mod FirstFault

@@ -7,4 +7,5 @@ pub mod Scopes
 pub mod Stops
 pub mod Tables
 pub mod Types
+pub mod Bound
 pub mod Branches

@@ -3,7 +3,10 @@
 
 mod binders;
 mod cases;
+mod check;
+mod compound;
 mod data;
+mod forms;
 mod index;
 mod kinds;
 mod known;
