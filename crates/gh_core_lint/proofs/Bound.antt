@@ -31,14 +31,6 @@ vars_append (b ∷ bs) old = ap (λ l. var_of b ∷ l) (vars_append bs old)
 pub adds_vars : (gs : Types_of) (old new : Vars) → Adds gs old new → vars_of new ≡ gs ++ vars_of old
 adds_vars gs old new h = ap vars_of h.1 ∙ vars_append h.0 old ∙ ap (λ l. l ++ vars_of old) h.2
 
--- those that were come back
-pub adds_back : (gs : Types_of) (old new : Vars) → Adds gs old new → drop (length new - length old) new ≡ old
-adds_back gs old new h =
-    let l = length-append h.0 old in
-    let m = ap length h.1 in
-    let k : length new - length old ≡ length h.0 = omega arith in
-    ap (λ n. drop n new) k ∙ ap (drop (length h.0)) h.1 ∙ drop-append_seam h.0 old
-
 paired_head : (x : ℕ) (xs : List ℕ) (us : List Nameless) → paired (x ∷ xs) us ≡ (x, slice_get us 0) ∷ paired xs (drop 1 us)
 paired_head x xs [] = refl
 paired_head x xs (u ∷ us) = refl

@@ -13,7 +13,9 @@ pub mod Lookups
 pub mod Names
 pub mod Nodes
 pub mod OneFault
+pub mod PartsTyped
 pub mod Places
 pub mod Results
+pub mod Scoped
 pub mod Typed
 pub mod Variables

@@ -1,5 +1,5 @@
 // The check of terms.
-ghost use Rattle.std.specs.Prelude.{◌≡◌, ◌+◌, ◌++◌, ◌∷◌, [], map, option_map, IfOk, MatchResult, OnOk, None};
+ghost use Rattle.std.specs.Prelude.{◌≡◌, ◌+◌, ◌++◌, [], map, option_map, List, IfOk, MatchResult, OnOk, None};
 ghost use Rattle.gh_core.specs.SameType.{Nameless};
 ghost use Rattle.gh_core.specs.Typing.{a_case, a_letrec, bindings_of, branches_of, code_of, type_of, HasType};
 ghost use Rattle.gh_core_lint.specs.Branches.{alt_code, binding_code};
@@ -61,7 +61,7 @@ pub fn check(
         CoreTerm::App(function, argument) => {
             let function = check(alloc, known, scope, node, function.get())?;
             let argument = check(alloc, known, scope, function.next, argument.get())?;
-            app_node(&function.ty, argument)
+            app_node(function, argument)
         }
         CoreTerm::TyLam(x, kind, body) => {
             let count = scope.kinds.count();
@@ -260,11 +260,16 @@ fn check_else(
     ensures scope { OnOk result (scope.new ≡ scope.old) }
     ensures fault { MatchResult result (λ _. Unit {0}) (λ s. Blames s (λ f. (t : Nameless) → BranchFails (program_of known.now) scope.old.kinds (vars_of scope.old.vars) t parts.next (branches_of [] (option_map code_of otherwise.now)) f)) }
 {
-    let mut parts = parts;
-    if let Some(term) = otherwise {
-        let one = check(alloc, known, scope, parts.next, term.get())?;
-        parts.types.push(one.ty)?;
-        parts.next = one.next;
+    match otherwise {
+        Some(term) => {
+            let one = check(alloc, known, scope, parts.next, term.get())?;
+            let mut types = parts.types;
+            types.push(one.ty)?;
+            Ok(Parts {
+                types,
+                next: one.next,
+            })
+        }
+        None => Ok(parts),
     }
-    Ok(parts)
 }

@@ -153,13 +153,13 @@ pub fn lam_node(
     Ok(rooted(make_arrow(alloc, from, to.ty)?, to.next)?)
 }
 
-// A function of this type with its argument.
-pub fn app_node(function: &Type, argument: Typed) -> Result<Typed, Stop>
-    ensures ty { IfOk result (λ made. type_at function.now ≡ arrow (type_at argument.ty) (type_at made.ty)) }
+// A function with its argument.
+pub fn app_node(function: Typed, argument: Typed) -> Result<Typed, Stop>
+    ensures ty { IfOk result (λ made. type_at function.ty ≡ arrow (type_at argument.ty) (type_at made.ty)) }
     ensures next { IfOk result (λ made. made.next ≡ argument.next + 1) }
-    ensures fault { MatchResult result (λ _. Unit {0}) (λ s. Blames s (AppFails (type_at function.now) (type_at argument.ty) argument.next)) }
+    ensures fault { MatchResult result (λ _. Unit {0}) (λ s. Blames s (AppFails (type_at function.ty) (type_at argument.ty) argument.next)) }
 {
-    let ty = app_rule(function, &argument.ty, argument.next)?;
+    let ty = app_rule(&function.ty, &argument.ty, argument.next)?;
     Ok(rooted(ty, argument.next)?)
 }
 
