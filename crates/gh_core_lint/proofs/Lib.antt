@@ -1,7 +1,9 @@
+pub mod Alternatives
 pub mod Applied
 pub mod Blaming
 pub mod Chosen
 pub mod Codes
+pub mod Composed
 pub mod FirstFault
 pub mod Indexes
 pub mod Keys

@@ -3,7 +3,9 @@
 
 mod binders;
 mod cases;
+mod compound;
 mod data;
+mod fields;
 mod index;
 mod kinds;
 mod known;
