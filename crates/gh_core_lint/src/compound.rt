@@ -15,7 +15,7 @@ ghost use Rattle.gh_core_lint.specs.Types.{type_at};
 use crate::binders::Binders;
 use crate::cases::{all_fit, covered};
 use crate::data::Sort;
-use crate::kinds::{Round, has_kind};
+use crate::kinds::is_value_type;
 use crate::known::Known;
 use crate::place::place;
 use crate::rules::{Stop, alike_rule, equal_rule};
@@ -74,7 +74,7 @@ fn is_case(
         × AllFit (program_of known.now) (type_at scrutinee.now) (branches_of (map alt_code alternatives.now) (option_map code_of otherwise.now))
         × IsCovered (program_of known.now).decls (type_at scrutinee.now) (branches_of (map alt_code alternatives.now) (option_map code_of otherwise.now)))) }
 {
-    if !has_kind(alloc, known, kinds, &Round::Outside, made, &Kind::Star)? {
+    if !is_value_type(alloc, known, kinds, made)? {
         return Ok(false);
     }
     if !is_scrutinee(sort) {
@@ -123,7 +123,7 @@ fn all_values(
     ensures { IfOk result (λ holds. IsTrue holds ↔ AreStars (program_of known.now).decls kinds.now (map type_at types.now)) }
 {
     for place in 0..types.len() {
-        if !has_kind(alloc, known, kinds, &Round::Outside, &types[place], &Kind::Star)? {
+        if !is_value_type(alloc, known, kinds, &types[place])? {
             return Ok(false);
         }
     }
@@ -140,7 +140,7 @@ pub fn let_rule(
     found: &[Type],
     node: u32,
 ) -> Result<(), Stop>
-    requires written { map type_at wanted.now ≡ written kinds.now (bindings_of (map binding_code bindings.now)) }
+    requires wanted { map type_at wanted.now ≡ written kinds.now (bindings_of (map binding_code bindings.now)) }
     requires many { length wanted.now ≡ length found.now }
     ensures ok { OnOk result (AreValues (program_of known.now) kinds.now (bindings_of (map binding_code bindings.now))
         × (written kinds.now (bindings_of (map binding_code bindings.now)) ≡ map type_at found.now)) }
@@ -149,6 +149,5 @@ pub fn let_rule(
     if !all_values(alloc, known, kinds, wanted)? {
         return Err(Stop::Broken(node));
     }
-    equal_rule(wanted, found, node)?;
-    Ok(())
+    equal_rule(wanted, found, node)
 }

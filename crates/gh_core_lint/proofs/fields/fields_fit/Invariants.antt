@@ -1,0 +1,7 @@
+use Rattle.std.proofs.Common.{length, map, take}
+use Rattle.std.specs.Prelude.{reverse}
+use Rattle.gh_core.specs.Typing.{field_type, ConsFit, DeclsFit, FieldsFit}
+use Rattle.gh_core_lint.proofs.fields.fields_fit.Given as goal
+
+abbrev pub invariant-loop-decl : goal.invariant-loop-decl
+invariant-loop-decl l = DeclsFit l.known.decls.now (take l.decl-index l.known.decls.now)
