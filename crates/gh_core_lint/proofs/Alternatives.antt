@@ -9,7 +9,7 @@ use Rattle.gh_typeterm.specs.declared.decl.DeclData.{DeclData}
 use Rattle.gh_core.specs.declared.terms.CoreAlt.{CoreAlt}
 use Rattle.gh_core.specs.SameType.{Nameless}
 use Rattle.gh_core.specs.Primitives.{same_origin}
-use Rattle.gh_core.specs.Typing.{Branch, Branches, Code, Program, branch, branches_of, con_branch, con_of, has_else, names_it, times_named, EachOnce, IsCovered, IsData}
+use Rattle.gh_core.specs.Typing.{Branch, Branches, Code, Program, branches_of, con_branch, con_of, has_else, names_it, times_named, EachOnce, IsCovered, IsData}
 use Rattle.gh_core_lint.specs.declared.types.Node.{Node}
 use Rattle.gh_core_lint.specs.Branches.{alt_code, tallied, IsChosen}
 use Rattle.gh_core_lint.specs.Faults.{AllFit, Fits}

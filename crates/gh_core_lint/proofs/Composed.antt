@@ -1,12 +1,11 @@
 -- The rules of a case and of recursive bindings.
-use Rattle.std.proofs.Common.{◌≡◌, ℕ, ◌+◌, ◌<◌, Bool, true, false, List, [], ◌∷◌, ◌++◌, map, take, length, get_or, Option, Some, None, refl, sym, ap, subst, ◌∙◌, inl, inr, arith}
-use Rattle.std.proofs.lemmas.List.{take_more, map-append, length-map}
-use Rattle.std.proofs.Math.ListN.{get_or-map}
+use Rattle.std.proofs.Common.{◌≡◌, ℕ, ◌+◌, ◌<◌, true, List, [], ◌∷◌, ◌++◌, map, take, length, get_or, Option, Some, None, refl, sym, ap, subst, ◌∙◌, inl, arith}
+use Rattle.std.proofs.lemmas.List.{take_more, map-append}
 use Rattle.std.specs.Prelude.{◌↔◌, IsTrue}
 use Rattle.gh_typeterm.specs.declared.kind.Kind.TheVariants as kind
 use Rattle.gh_typeterm.specs.declared.decl.DeclData.{DeclData}
 use Rattle.gh_core.specs.SameType.{Nameless}
-use Rattle.gh_core.specs.Typing.{Bindings, no_binding, binding, Branch, Branches, Code, Kinds, Program, branches_of, has_else, placed, HasKind, IsCovered}
+use Rattle.gh_core.specs.Typing.{Bindings, no_binding, binding, Branch, Code, Kinds, Program, branches_of, has_else, HasKind, IsCovered}
 use Rattle.gh_core_lint.specs.declared.types.Node.{Node}
 use Rattle.gh_core_lint.specs.Faults.{written, AllFit, AreValues}
 use Rattle.gh_core_lint.specs.Kinds.{AreStars}

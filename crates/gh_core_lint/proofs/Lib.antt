@@ -5,6 +5,7 @@ pub mod Chosen
 pub mod Codes
 pub mod Composed
 pub mod FirstFault
+pub mod Fitting
 pub mod Indexes
 pub mod Keys
 pub mod Kinding

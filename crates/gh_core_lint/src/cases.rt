@@ -161,11 +161,7 @@ fn tally(alloc: Global, alternatives: &[CoreAlt]) -> Result<HashMap<Key, usize>,
 }
 
 // Whether alternatives name each of these constructors once.
-fn each_once(
-    alloc: Global,
-    cons: &[DeclCon],
-    alternatives: &[CoreAlt],
-) -> Result<bool, NoMemory>
+fn each_once(alloc: Global, cons: &[DeclCon], alternatives: &[CoreAlt]) -> Result<bool, NoMemory>
     ensures { IfOk result (λ holds. IsTrue holds ↔ EachOnce cons.now (branches_of (map alt_code alternatives.now) None)) }
 {
     let table = tally(alloc, alternatives)?;

@@ -106,7 +106,16 @@ pub fn case_rule(
     ensures err { MatchResult result (λ _. Unit {0}) (λ s. Blames s (CaseFails (program_of known.now) kinds.now (type_at scrutinee.now) (type_of ty.now) (branches_of (map alt_code alternatives.now) (option_map code_of otherwise.now)) (map type_at found.now) node)) }
 {
     let made = place(alloc, kinds, ty)?;
-    if !is_case(alloc, known, kinds, scrutinee, sort, &made, alternatives, otherwise)? {
+    if !is_case(
+        alloc,
+        known,
+        kinds,
+        scrutinee,
+        sort,
+        &made,
+        alternatives,
+        otherwise,
+    )? {
         return Err(Stop::Broken(node));
     }
     alike_rule(&made, found, node)?;

@@ -18,7 +18,14 @@ fn field_fits(alloc: Global, known: &Known, params: &[Kind], ty: &Ty) -> Result<
 {
     let none = Binders::new(alloc);
     let made = field(alloc, params.len(), ty)?;
-    has_kind(alloc, known, &none, &Round::Params(params), &made, &Kind::Star)
+    has_kind(
+        alloc,
+        known,
+        &none,
+        &Round::Params(params),
+        &made,
+        &Kind::Star,
+    )
 }
 
 // Whether the fields of a constructor are of values.

@@ -1,8 +1,8 @@
-use Rattle.std.proofs.Common.{ℕ, ◌+◌, cond, suc, Some, refl, sym, ap, ◌∙◌}
+use Rattle.std.proofs.Common.{◌+◌, cond, suc, Some, refl, sym, ap, ◌∙◌}
 use Rattle.std.specs.HashMap.{get}
 use Rattle.gh_core.specs.declared.terms.CoreName.TheVariants as name
 use Rattle.gh_core.specs.Primitives.{same_origin}
-use Rattle.gh_core.specs.Typing.{code_of, names_it}
+use Rattle.gh_core.specs.Typing.{names_it}
 use Rattle.gh_core_lint.specs.Branches.{alt_code, tallied}
 use Rattle.gh_core_lint.specs.Keys.{key_of, same_key}
 use Rattle.gh_core_lint.proofs.Alternatives.{counted}

@@ -1,4 +1,4 @@
-use Rattle.std.proofs.Common.{true, map, Option, sym, ap, subst, ◌∙◌}
+use Rattle.std.proofs.Common.{true, map, Option, sym, ap, subst}
 use Rattle.std.specs.Prelude.{◌↔◌, option_map, IsTrue}
 use Rattle.gh_core.specs.Typing.{branches_of, code_of, Code, IsCovered}
 use Rattle.gh_core_lint.specs.Branches.{alt_code}

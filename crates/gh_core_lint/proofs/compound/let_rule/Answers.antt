@@ -17,8 +17,11 @@ returns-then-not-branch-clause-err c =
     let p = program_of c.args.known.now in
     let ks = c.args.kinds.now in
     let bs = bindings_of (map binding_code c.args.bindings.now) in
-    inl (λ w. let yes = c.in_ok-all_values.ensures.1 (subst (AreStars p.decls ks) (sym c.requires.wanted) (values_stars p ks bs w)) in
-    let no = c.if-not-branch.true in absurd (cc), refl)
+    inl (
+      λ w. let yes = c.in_ok-all_values.ensures.1 (subst (AreStars p.decls ks) (sym c.requires.wanted) (values_stars p ks bs w)) in
+          let no = c.if-not-branch.true in absurd (cc),
+      refl,
+    )
 
 pub returns-clause-ok : goal.returns-clause-ok
 returns-clause-ok c =
@@ -40,6 +43,8 @@ returns-clause-err c =
     let stars = c.in_ok-all_values.ensures.0 (let yes = c.if-not-branch.false in cc) in
     on_err_more c.equal_rule.result (λ s. Blames s (FirstClash (map type_at c.args.wanted.now) us c.args.node)) (λ s. Blames s (LetFails p ks bs us c.args.node))
     (λ s. blames_more s (FirstClash (map type_at c.args.wanted.now) us c.args.node) (LetFails p ks bs us c.args.node)
-    (λ f h. inr (stars_values p ks bs (subst (AreStars p.decls ks) c.requires.wanted stars),
-    subst (λ (ws : List Nameless). FirstClash ws us c.args.node f) c.requires.wanted h)))
+    (λ f h. inr (
+      stars_values p ks bs (subst (AreStars p.decls ks) c.requires.wanted stars),
+      subst (λ (ws : List Nameless). FirstClash ws us c.args.node f) c.requires.wanted h,
+    )))
     c.equal_rule.ensures.err

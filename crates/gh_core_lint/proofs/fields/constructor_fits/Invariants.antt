@@ -1,6 +1,6 @@
 use Rattle.std.proofs.Common.{length, map, take}
 use Rattle.std.specs.Prelude.{reverse}
-use Rattle.gh_core.specs.Typing.{field_type, ConsFit, DeclsFit, FieldsFit}
+use Rattle.gh_core.specs.Typing.{field_type, FieldsFit}
 use Rattle.gh_core_lint.proofs.fields.constructor_fits.Given as goal
 
 abbrev pub invariant-loop-ty : goal.invariant-loop-ty

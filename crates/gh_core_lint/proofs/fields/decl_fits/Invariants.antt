@@ -1,6 +1,5 @@
-use Rattle.std.proofs.Common.{length, map, take}
-use Rattle.std.specs.Prelude.{reverse}
-use Rattle.gh_core.specs.Typing.{field_type, ConsFit, DeclsFit, FieldsFit}
+use Rattle.std.proofs.Common.{take}
+use Rattle.gh_core.specs.Typing.{ConsFit}
 use Rattle.gh_core_lint.proofs.fields.decl_fits.Given as goal
 
 abbrev pub invariant-loop-con : goal.invariant-loop-con
