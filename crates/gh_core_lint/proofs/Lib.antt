@@ -10,6 +10,7 @@ pub mod Indexes
 pub mod Keys
 pub mod Kinding
 pub mod Knowing
+pub mod Leveled
 pub mod Lists
 pub mod Lookups
 pub mod Names

@@ -8,3 +8,5 @@ pub mod Stops
 pub mod Tables
 pub mod Types
 pub mod Branches
+pub mod Reports
+pub mod Written

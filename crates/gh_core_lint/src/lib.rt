@@ -5,6 +5,7 @@ mod binders;
 mod cases;
 mod compound;
 mod data;
+mod fault;
 mod fields;
 mod index;
 mod kinds;
@@ -15,5 +16,7 @@ mod primitives;
 mod rules;
 mod tables;
 mod types;
+mod written;
 
+pub use fault::LintFault;
 pub use laws::{one_first_fault, typed_without_fault};
