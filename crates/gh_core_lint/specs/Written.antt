@@ -1,5 +1,5 @@
 -- Types of the check as written ones.
-use Rattle.std.specs.Prelude.{ℕ, suc, ◌+◌, ◌<◌, List, [], ◌∷◌}
+use Rattle.std.specs.Prelude.{ℕ, ◌+◌, ◌<◌, List, [], ◌∷◌}
 use Rattle.gh_core.specs.SameType.{Nameless, bound, free, con, applied, forall, any}
 
 -- all levels in a type are below a number
