@@ -17,6 +17,7 @@ pub mod Names
 pub mod Nodes
 pub mod OneFault
 pub mod Places
+pub mod Reported
 pub mod Results
 pub mod Typed
 pub mod Variables

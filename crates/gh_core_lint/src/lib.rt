@@ -3,16 +3,19 @@
 
 mod binders;
 mod cases;
+mod check;
 mod compound;
 mod data;
 mod fault;
 mod fields;
+mod forms;
 mod index;
 mod kinds;
 mod known;
 mod laws;
 mod place;
 mod primitives;
+mod program;
 mod rules;
 mod tables;
 mod types;
@@ -20,3 +23,4 @@ mod written;
 
 pub use fault::LintFault;
 pub use laws::{one_first_fault, typed_without_fault};
+pub use program::lint;
