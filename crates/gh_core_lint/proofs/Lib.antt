@@ -1,13 +1,17 @@
+pub mod Alternatives
 pub mod Applied
 pub mod Blaming
 pub mod Bound
 pub mod Chosen
 pub mod Codes
+pub mod Composed
 pub mod FirstFault
+pub mod Fitting
 pub mod Indexes
 pub mod Keys
 pub mod Kinding
 pub mod Knowing
+pub mod Leveled
 pub mod Lists
 pub mod Lookups
 pub mod Names
@@ -15,6 +19,7 @@ pub mod Nodes
 pub mod OneFault
 pub mod PartsTyped
 pub mod Places
+pub mod Reported
 pub mod Results
 pub mod Scoped
 pub mod Typed

@@ -9,3 +9,5 @@ pub mod Tables
 pub mod Types
 pub mod Bound
 pub mod Branches
+pub mod Reports
+pub mod Written
