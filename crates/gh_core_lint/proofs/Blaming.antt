@@ -1,5 +1,5 @@
 -- What a stop says, and faults of longer lists.
-use Rattle.std.proofs.Common.{◌≡◌, ℕ, ◌+◌, ◌++◌, List, [], ◌∷◌, Option, Some, None, refl, ap, subst, inl, inr, arith}
+use Rattle.std.proofs.Common.{◌≡◌, ℕ, ◌+◌, ◌++◌, List, [], ◌∷◌, Option, None, refl, ap, subst, inl, inr, arith}
 use Rattle.gh_core.specs.declared.types.CoreType.{CoreType}
 use Rattle.gh_core.specs.SameType.{Nameless}
 use Rattle.gh_core.specs.Typing.{Program, Kinds, Types_of, Code, Branch, bindings_of, branches_of, HasType}

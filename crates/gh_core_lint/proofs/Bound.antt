@@ -1,10 +1,9 @@
 -- Variables that are bound inside others.
-use Rattle.std.proofs.Common.{◌≡◌, ℕ, suc, ◌+◌, ◌-◌, ◌<◌, List, [], ◌∷◌, ◌++◌, map, take, drop, length, get_or, Option, Some, None, refl, sym, ap, subst, ◌∙◌, ◌≤◌, add-one, drop-drop, arith}
-use Rattle.std.proofs.Math.Seq.{drop-cons, drop-append_seam}
-use Rattle.std.proofs.lemmas.List.{length-append, take_more}
+use Rattle.std.proofs.Common.{◌≡◌, ℕ, suc, ◌+◌, ◌<◌, List, [], ◌∷◌, ◌++◌, map, take, drop, length, get_or, Option, Some, refl, sym, ap, subst, ◌∙◌, ◌≤◌, add-one, drop-drop, arith}
+use Rattle.std.proofs.Math.Seq.{drop-cons}
+use Rattle.std.proofs.lemmas.List.{take_more}
 use Rattle.std.proofs.lemmas.Option.{slice_get-map}
 use Rattle.std.specs.Prelude.{slice_get, option_map}
-use Rattle.gh_typeterm.specs.declared.kind.Kind.{Kind}
 use Rattle.gh_core.specs.declared.types.CoreType.{CoreType}
 use Rattle.gh_core.specs.declared.terms.CoreTerm.{CoreTerm}
 use Rattle.gh_core.specs.SameType.{Nameless}

@@ -8,13 +8,13 @@ use Rattle.gh_core.specs.declared.types.CoreType.{CoreType}
 use Rattle.gh_core.specs.declared.terms.CoreTerm.{CoreTerm}
 use Rattle.gh_core.specs.declared.terms.CoreAlt.{CoreAlt}
 use Rattle.gh_core.specs.SameType.{Nameless}
-use Rattle.gh_core.specs.Typing.{Code, a_letrec, a_case, Bindings, no_binding, binding, Branch, con_branch, int_branch, char_branch, Branches, no_branch, else_branch, branch, bindings_of, branches_of, bound_types, fields_at, paired, Kinds, Types_of, Program, placed, HasType, AllBound, Gives, AllGive}
+use Rattle.gh_core.specs.Typing.{Code, a_letrec, a_case, Bindings, no_binding, binding, Branch, con_branch, int_branch, char_branch, Branches, no_branch, else_branch, branch, bindings_of, branches_of, bound_types, paired, Kinds, Types_of, Program, placed, HasType, AllBound, Gives, AllGive}
 use Rattle.gh_core_lint.specs.declared.forms.Scope.{Scope}
 use Rattle.gh_core_lint.specs.declared.rules.Stop.{Stop}
 use Rattle.gh_core_lint.specs.declared.types.Node.{Node}
 use Rattle.gh_core_lint.specs.Bound.{Adds}
 use Rattle.gh_core_lint.specs.Branches.{alt_code, binding_code}
-use Rattle.gh_core_lint.specs.Faults.{Fault, nodes, nodes_bound, nodes_branch, nodes_chosen, repeated, written, AllFit, AreFields, AreValues, BindingFails, BindingsHave, BodyFails, BranchFails, BranchHas, BranchesHave, CaseFails, Fails, Fits, IsCase, LetFails}
+use Rattle.gh_core_lint.specs.Faults.{Fault, nodes, nodes_bound, nodes_branch, nodes_chosen, repeated, written, AllFit, AreValues, BindingFails, BindingsHave, BodyFails, BranchFails, BranchHas, BranchesHave, CaseFails, Fails, Fits, IsCase}
 use Rattle.gh_core_lint.specs.Stops.{vars_of, Blames}
 use Rattle.gh_core_lint.specs.Types.{type_at}
 use Rattle.gh_core_lint.proofs.Blaming.{blames_more, bindings_fail, bindings_more, bindings_nodes, branches_fail, branches_more, branches_nodes, fail_before_else}
