@@ -9,7 +9,7 @@ use Rattle.gh_core.specs.declared.terms.CoreTerm.{CoreTerm}
 use Rattle.gh_core.specs.declared.terms.CoreAlt.{CoreAlt}
 use Rattle.gh_core.specs.SameType.{Nameless}
 use Rattle.gh_core.specs.Typing.{Code, a_letrec, a_case, Bindings, no_binding, binding, Branch, con_branch, int_branch, char_branch, Branches, no_branch, else_branch, branch, bindings_of, branches_of, bound_types, paired, Kinds, Types_of, Program, placed, HasType, AllBound, Gives, AllGive}
-use Rattle.gh_core_lint.specs.declared.forms.Scope.{Scope}
+use Rattle.gh_core_lint.specs.declared.scope.Scope.{Scope}
 use Rattle.gh_core_lint.specs.declared.rules.Stop.{Stop}
 use Rattle.gh_core_lint.specs.declared.types.Node.{Node}
 use Rattle.gh_core_lint.specs.Bound.{Adds}

@@ -2,7 +2,7 @@
 use Rattle.std.proofs.Common.{◌≡◌, ℕ, ◌++◌, subst, subst₂}
 use Rattle.gh_core.specs.SameType.{Nameless}
 use Rattle.gh_core.specs.Typing.{Code, Kinds, Types_of, Program, HasType}
-use Rattle.gh_core_lint.specs.declared.forms.Scope.{Scope}
+use Rattle.gh_core_lint.specs.declared.scope.Scope.{Scope}
 use Rattle.gh_core_lint.specs.Bound.{Adds}
 use Rattle.gh_core_lint.specs.Faults.{Fault, Fails}
 use Rattle.gh_core_lint.specs.Stops.{vars_of}

@@ -10,19 +10,17 @@ ghost use Rattle.gh_core_lint.specs.Stops.{vars_of, Blames};
 ghost use Rattle.gh_core_lint.specs.Types.{type_at};
 
 use crate::cases::fields_for;
-use crate::compound::{case_rule, let_rule};
 use crate::data::{Sort, sort_of};
 use crate::forms::{
-    Parts, Scope, Typed, app_node, bind_all, bind_lam, bind_names, lam_node, rooted, stop_node,
-    tyapp_node, tylam_node,
+    Parts, Typed, app_node, case_node, lam_node, letrec_node, stop_node, tyapp_node, tylam_node,
 };
 use crate::known::Known;
-use crate::primitives::{char_type, int_type, string_type};
-use crate::rules::{Stop, con_rule, global_rule, prim_rule, var_rule};
+use crate::leaves::{char_node, con_node, global_node, int_node, prim_node, string_node, var_node};
+use crate::rules::Stop;
+use crate::scope::{Scope, bind_all, bind_lam, bind_names, bind_tylam};
 use crate::types::Type;
 use gh_base::ListOf;
 use gh_core::{CoreAlt, CoreTerm, CoreType};
-use gh_typeterm::copy_kind;
 use sqlite_items::Boxed;
 use std::alloc::Global;
 
@@ -41,15 +39,14 @@ pub fn check(
     ensures fault { MatchResult result (λ _. Unit {0}) (λ s. Blames s (Fails (program_of known.now) scope.old.kinds (vars_of scope.old.vars) node (code_of term.now))) }
 {
     match term {
-        CoreTerm::Var(x) => Ok(rooted(var_rule(&scope.vars, *x, node)?, node)?),
-        CoreTerm::Global(name) => Ok(rooted(global_rule(known, *name, node)?, node)?),
-        CoreTerm::Con(con) => Ok(rooted(con_rule(alloc, known, *con, node)?, node)?),
-        CoreTerm::Int(_) => Ok(rooted(int_type(alloc)?, node)?),
-        CoreTerm::Char(_) => Ok(rooted(char_type(alloc)?, node)?),
-        CoreTerm::Str(_) => Ok(rooted(string_type(alloc)?, node)?),
+        CoreTerm::Var(x) => var_node(&scope.vars, *x, node),
+        CoreTerm::Global(name) => global_node(known, *name, node),
+        CoreTerm::Con(con) => con_node(alloc, known, *con, node),
+        CoreTerm::Int(_) => int_node(alloc, node),
+        CoreTerm::Char(_) => char_node(alloc, node),
+        CoreTerm::Str(_) => string_node(alloc, node),
         CoreTerm::Prim(origin, _, written) => {
-            let ty = prim_rule(alloc, known, &scope.kinds, *origin, written, node)?;
-            Ok(rooted(ty, node)?)
+            prim_node(alloc, known, &scope.kinds, *origin, written, node)
         }
         CoreTerm::Lam(x, ty, body) => {
             let count = scope.vars.count();
@@ -65,10 +62,10 @@ pub fn check(
         }
         CoreTerm::TyLam(x, kind, body) => {
             let count = scope.kinds.count();
-            scope.kinds.bind(*x, copy_kind(alloc, kind)?)?;
+            bind_tylam(alloc, scope, *x, kind)?;
             let body = check(alloc, known, scope, node, body.get())?;
             scope.kinds.keep(count);
-            Ok(tylam_node(alloc, count, kind, body)?)
+            tylam_node(alloc, count, kind, body)
         }
         CoreTerm::TyApp(function, ty) => {
             let function = check(alloc, known, scope, node, function.get())?;
@@ -114,17 +111,15 @@ fn check_letrec(
     let parts = check_bindings(alloc, known, scope, node, bindings)?;
     let body = check(alloc, known, scope, parts.next, body)?;
     scope.vars.keep(count);
-    let found = parts.types.as_slice();
-    let_rule(
+    letrec_node(
         alloc,
         known,
         &scope.kinds,
         bindings,
-        wanted.as_slice(),
-        found,
-        body.next,
-    )?;
-    Ok(rooted(body.ty, body.next)?)
+        wanted,
+        parts.types,
+        body,
+    )
 }
 
 // The types of the terms of bindings.
@@ -172,19 +167,17 @@ fn check_case(
     let sort = sort_of(alloc, known, &of.ty)?;
     let parts = check_alternatives(alloc, known, scope, of.next, alternatives, &of.ty, &sort)?;
     let parts = check_else(alloc, known, scope, otherwise, parts)?;
-    let ty = case_rule(
+    case_node(
         alloc,
         known,
         &scope.kinds,
-        &of.ty,
-        &sort,
+        of.ty,
+        sort,
         ty,
         alternatives,
         otherwise,
-        parts.types.as_slice(),
-        parts.next,
-    )?;
-    Ok(rooted(ty, parts.next)?)
+        parts,
+    )
 }
 
 // The types of the results of alternatives.

@@ -2,16 +2,17 @@ use Rattle.std.proofs.Common.{◌≡◌, ◌+◌, ◌∙◌, refl, ap, sym, subs
 use Rattle.std.proofs.lemmas.List.{length-map}
 use Rattle.std.proofs.lemmas.Result.{err_from_is_err_and}
 use Rattle.std.specs.Prelude.{option_map, IfOk, MatchResult}
-use Rattle.gh_core.specs.Typing.{Code, a_case, a_letrec, bindings_of, branches_of, code_of, type_of, HasType}
+use Rattle.gh_core.specs.Typing.{Code, a_case, a_letrec, bindings_of, branches_of, code_of, placed, type_of, HasType}
 use Rattle.gh_core.specs.declared.terms.CoreTerm.{CoreTerm}
 use Rattle.gh_core_lint.specs.declared.types.Node.{Node}
 use Rattle.gh_core_lint.specs.Branches.{alt_code, binding_code}
-use Rattle.gh_core_lint.specs.Faults.{nodes, repeated, BodyFails, BranchHas, BranchesHave, CaseFails, Fails}
+use Rattle.gh_core_lint.specs.Faults.{nodes, nodes_chosen, repeated, written, AreValues, BodyFails, BranchHas, BranchesHave, CaseFails, Fails, IsCase}
 use Rattle.gh_core_lint.specs.Programs.{program_of}
 use Rattle.gh_core_lint.specs.Stops.{vars_of, Blames}
 use Rattle.gh_core_lint.specs.Types.{type_at}
 use Rattle.gh_core_lint.proofs.Codes.{code_LetRec}
-use Rattle.gh_core_lint.proofs.Scoped.{again, Has}
+use Rattle.gh_core_lint.proofs.Results.{ok_both, ok_more, on_err_more}
+use Rattle.gh_core_lint.proofs.Scoped.{again, Faulty, Has}
 use Rattle.gh_core_lint.proofs.PartsTyped.{alternative_fails, alternative_has, alternative_less, alternative_next, binding_fails, binding_has, binding_less, binding_next, bindings_many, case_has, case_outer, case_second, case_third, letrec_has, nodes_join, typed_more, written_many}
 use Rattle.gh_core_lint.proofs.check.+check.Goals as goal
 
@@ -132,70 +133,6 @@ check_case-returns-in_err-parts-2-clause-fault t c =
     (map type_at c.in_ok-parts.parts.types) c.in_err-parts-2.field-0.0 c.in_ok-of.ensures.scope c.in_ok-parts.ensures.scope c.in_ok-of.ensures.typed c.in_ok-of.ensures.next
     c.in_ok-parts.ensures.typed c.in_ok-parts.ensures.next c.in_err-parts-2.ensures.fault)
 
-pub check_case-returns-in_err-ty-clause-fault : goal.check_case-returns-in_err-ty-clause-fault
-check_case-returns-in_err-ty-clause-fault t c =
-    let p = program_of c.args.known.now in
-    let e = err_from_is_err_and c.from_residual-in_err-ty.result c.from_residual-in_err-ty.ensures.1 in
-    let xs = map alt_code c.args.alternatives.now in
-    let other = option_map code_of c.args.otherwise.now in
-    let k = nodes_join xs other in
-    let a = c.in_ok-of.ensures.next in
-    let b = c.in_ok-parts.ensures.next in
-    let d = c.in_ok-parts-2.ensures.next in
-    rw (e.1, e.2)
-    (case_outer p c.args.scope.now c.check.new.scope c.check_alternatives.new.scope c.check_else.new.scope c.args.node c.in_ok-parts-2.parts.next
-    (code_of c.args.scrutinee.now) (type_of c.args.ty.now) xs other (type_at c.in_ok-of.of.ty) (map type_at c.in_ok-parts.parts.types) (map type_at c.in_ok-parts-2.parts.types)
-    c.in_err-ty.field-0.0 c.in_ok-of.ensures.scope c.in_ok-parts.ensures.scope c.in_ok-parts-2.ensures.scope c.in_ok-of.ensures.typed c.in_ok-parts.ensures.typed
-    c.in_ok-parts-2.ensures.typed (omega arith)
-    (subst (λ (l : List Node). Blames c.in_err-ty.field-0.0
-    (CaseFails p c.check_else.new.scope.kinds (type_at c.in_ok-of.of.ty) (type_of c.args.ty.now) (branches_of xs other) (map type_at l) c.in_ok-parts-2.parts.next))
-    c.as_slice.ensures c.in_err-ty.ensures.err))
-
-pub check_case-returns-clause-typed : goal.check_case-returns-clause-typed
-check_case-returns-clause-typed t c =
-    let p = program_of c.args.known.now in
-    let old = c.args.scope.now in
-    let e = code_of c.args.scrutinee.now in
-    let xs = map alt_code c.args.alternatives.now in
-    let other = option_map code_of c.args.otherwise.now in
-    let rule = c.in_ok-ty.ensures.ok in
-    subst (λ (n : Node). Has p old (a_case e (type_of c.args.ty.now) (branches_of xs other)) (type_at n)) (sym c.in_ok-rooted.ensures.ty)
-    (case_has p old c.check.new.scope c.check_alternatives.new.scope c.check_else.new.scope e (type_of c.args.ty.now) xs other
-    (type_at c.in_ok-of.of.ty) (type_at c.in_ok-ty.ty) (map type_at c.in_ok-parts.parts.types) (map type_at c.in_ok-parts-2.parts.types)
-    c.in_ok-of.ensures.scope c.in_ok-parts.ensures.scope c.in_ok-parts-2.ensures.scope c.in_ok-of.ensures.typed c.in_ok-parts.ensures.typed c.in_ok-parts-2.ensures.typed
-    rule.0 rule.1 (subst (λ (l : List Node). repeated (type_at c.in_ok-ty.ty) (map type_at l) ≡ map type_at l) c.as_slice.ensures rule.2))
-
-pub check_case-returns-clause-next : goal.check_case-returns-clause-next
-check_case-returns-clause-next t c =
-    let k = nodes_join (map alt_code c.args.alternatives.now) (option_map code_of c.args.otherwise.now) in
-    let a = c.in_ok-of.ensures.next in
-    let b = c.in_ok-parts.ensures.next in
-    let d = c.in_ok-parts-2.ensures.next in
-    let r = c.in_ok-rooted.ensures.next in
-    omega arith
-
-pub check_letrec-let_rule-requires-clause-many : goal.check_letrec-let_rule-requires-clause-many
-check_letrec-let_rule-requires-clause-many t c =
-    let p = program_of c.args.known.now in
-    let bs = map binding_code c.args.bindings.now in
-    let at = c.bind_all.new.scope in
-    ap length c.as_slice.ensures ∙ sym (length-map c.in_ok-wanted.wanted type_at) ∙ ap length c.in_ok-wanted.ensures.types ∙ written_many c.args.scope.now.kinds bs
-    ∙ sym (bindings_many p at.kinds (vars_of at.vars) bs (map type_at c.in_ok-parts.parts.types) c.in_ok-parts.ensures.typed)
-    ∙ length-map c.in_ok-parts.parts.types type_at ∙ sym (ap length c.as_slice-found.ensures)
-
-pub check_letrec-returns-clause-typed : goal.check_letrec-returns-clause-typed
-check_letrec-returns-clause-typed t c =
-    let p = program_of c.args.known.now in
-    let old = c.args.scope.now in
-    let bs = bindings_of (map binding_code c.args.bindings.now) in
-    let rule = c.in_ok-let_rule.ensures.ok in
-    subst (λ (n : Node). Has p old (a_letrec bs (code_of c.args.body.now)) (type_at n)) (sym c.in_ok-rooted.ensures.ty)
-    (letrec_has p old c.bind_all.new.scope c.check_bindings.new.scope c.check.new.scope.kinds bs (code_of c.args.body.now)
-    (map type_at c.in_ok-parts.parts.types) (type_at c.in_ok-body.body.ty) c.in_ok-wanted.ensures.kinds c.in_ok-wanted.ensures.bound c.in_ok-parts.ensures.scope
-    c.in_ok-parts.ensures.typed c.in_ok-body.ensures.typed
-    (ap (λ s. s.kinds) (c.in_ok-body.ensures.scope ∙ c.in_ok-parts.ensures.scope) ∙ c.in_ok-wanted.ensures.kinds)
-    rule.0 (rule.1 ∙ ap (map type_at) c.as_slice-found.ensures))
-
 pub check_else-returns-in_ok-push-in-Some-clause-typed : goal.check_else-returns-in_ok-push-in-Some-clause-typed
 check_else-returns-in_ok-push-in-Some-clause-typed t c =
     let p = program_of c.args.known.now in
@@ -206,3 +143,82 @@ check_else-returns-in_ok-push-in-Some-clause-typed t c =
       typed_more c.args.parts.types c.push.new.self c.in_ok-one-in-Some.one.ty c.in_ok-push-in-Some.ensures.ok,
       (λ s. subst (λ (o : Option Code). BranchesHave p old.kinds (vars_of old.vars) s (branches_of [] o) (u ∷ [])) (sym is) (u, refl, c.in_ok-one-in-Some.ensures.typed)),
     )
+
+pub check_case-returns-clause-typed : goal.check_case-returns-clause-typed
+check_case-returns-clause-typed t c =
+    let p = program_of c.args.known.now in
+    let old = c.args.scope.now in
+    let e = code_of c.args.scrutinee.now in
+    let ty = type_of c.args.ty.now in
+    let xs = map alt_code c.args.alternatives.now in
+    let other = option_map code_of c.args.otherwise.now in
+    let s = type_at c.in_ok-of.of.ty in
+    let ws = map type_at c.in_ok-parts-2.parts.types in
+    let ks = c.check_else.new.scope.kinds in
+    ok_more c.case_node.result (λ made. IsCase p ks s ty (branches_of xs other) × (type_at made.ty ≡ placed ks ty) × (repeated (type_at made.ty) ws ≡ ws))
+    (λ made. Has p old (a_case e ty (branches_of xs other)) (type_at made.ty))
+    (λ made rule. case_has p old c.check.new.scope c.check_alternatives.new.scope c.check_else.new.scope e ty xs other
+    s (type_at made.ty) (map type_at c.in_ok-parts.parts.types) ws
+    c.in_ok-of.ensures.scope c.in_ok-parts.ensures.scope c.in_ok-parts-2.ensures.scope c.in_ok-of.ensures.typed c.in_ok-parts.ensures.typed c.in_ok-parts-2.ensures.typed
+    rule.0 rule.1 rule.2) c.case_node.ensures.rule
+
+pub check_case-returns-clause-next : goal.check_case-returns-clause-next
+check_case-returns-clause-next t c =
+    let xs = map alt_code c.args.alternatives.now in
+    let other = option_map code_of c.args.otherwise.now in
+    let k = nodes_join xs other in
+    let a = c.in_ok-of.ensures.next in
+    let b = c.in_ok-parts.ensures.next in
+    let d = c.in_ok-parts-2.ensures.next in
+    let sum : c.in_ok-parts-2.parts.next + 1 ≡ c.args.node + nodes (a_case (code_of c.args.scrutinee.now) (type_of c.args.ty.now) (branches_of xs other)) = omega arith in
+    ok_more c.case_node.result (λ made. made.next ≡ c.in_ok-parts-2.parts.next + 1)
+    (λ made. made.next ≡ c.args.node + nodes (a_case (code_of c.args.scrutinee.now) (type_of c.args.ty.now) (branches_of xs other)))
+    (λ made h. h ∙ sum) c.case_node.ensures.next
+
+pub check_case-returns-clause-fault : goal.check_case-returns-clause-fault
+check_case-returns-clause-fault t c =
+    let p = program_of c.args.known.now in
+    let old = c.args.scope.now in
+    let e = code_of c.args.scrutinee.now in
+    let ty = type_of c.args.ty.now in
+    let xs = map alt_code c.args.alternatives.now in
+    let other = option_map code_of c.args.otherwise.now in
+    let s = type_at c.in_ok-of.of.ty in
+    let ws = map type_at c.in_ok-parts-2.parts.types in
+    let ks = c.check_else.new.scope.kinds in
+    let k = nodes_join xs other in
+    let a = c.in_ok-of.ensures.next in
+    let b = c.in_ok-parts.ensures.next in
+    let d = c.in_ok-parts-2.ensures.next in
+    let is : c.in_ok-parts-2.parts.next ≡ c.args.node + nodes e + nodes_chosen (branches_of xs other) = omega arith in
+    on_err_more c.case_node.result (λ stop. Blames stop (CaseFails p ks s ty (branches_of xs other) ws c.in_ok-parts-2.parts.next))
+    (λ stop. Blames stop (Faulty p old c.args.node (a_case e ty (branches_of xs other))))
+    (λ stop h. case_outer p old c.check.new.scope c.check_alternatives.new.scope c.check_else.new.scope c.args.node c.in_ok-parts-2.parts.next e ty xs other
+    s (map type_at c.in_ok-parts.parts.types) ws stop
+    c.in_ok-of.ensures.scope c.in_ok-parts.ensures.scope c.in_ok-parts-2.ensures.scope c.in_ok-of.ensures.typed c.in_ok-parts.ensures.typed c.in_ok-parts-2.ensures.typed
+    is h) c.case_node.ensures.fault
+
+pub check_letrec-letrec_node-requires-clause-many : goal.check_letrec-letrec_node-requires-clause-many
+check_letrec-letrec_node-requires-clause-many t c =
+    let p = program_of c.args.known.now in
+    let bs = map binding_code c.args.bindings.now in
+    let at = c.bind_all.new.scope in
+    sym (length-map c.in_ok-wanted.wanted type_at) ∙ ap length c.in_ok-wanted.ensures.types ∙ written_many c.args.scope.now.kinds bs
+    ∙ sym (bindings_many p at.kinds (vars_of at.vars) bs (map type_at c.in_ok-parts.parts.types) c.in_ok-parts.ensures.typed)
+    ∙ length-map c.in_ok-parts.parts.types type_at
+
+pub check_letrec-returns-clause-typed : goal.check_letrec-returns-clause-typed
+check_letrec-returns-clause-typed t c =
+    let p = program_of c.args.known.now in
+    let old = c.args.scope.now in
+    let bs = bindings_of (map binding_code c.args.bindings.now) in
+    let us = map type_at c.in_ok-parts.parts.types in
+    let ks = c.check.new.scope.kinds in
+    ok_both c.letrec_node.result (λ _. AreValues p ks bs × (written ks bs ≡ us)) (λ made. made.ty ≡ c.in_ok-body.body.ty)
+    (λ made. Has p old (a_letrec bs (code_of c.args.body.now)) (type_at made.ty))
+    (λ made rule same. subst (λ (n : Node). Has p old (a_letrec bs (code_of c.args.body.now)) (type_at n)) (sym same)
+    (letrec_has p old c.bind_all.new.scope c.check_bindings.new.scope ks bs (code_of c.args.body.now)
+    us (type_at c.in_ok-body.body.ty) c.in_ok-wanted.ensures.kinds c.in_ok-wanted.ensures.bound c.in_ok-parts.ensures.scope
+    c.in_ok-parts.ensures.typed c.in_ok-body.ensures.typed
+    (ap (λ s. s.kinds) (c.in_ok-body.ensures.scope ∙ c.in_ok-parts.ensures.scope) ∙ c.in_ok-wanted.ensures.kinds)
+    rule.0 rule.1)) c.letrec_node.ensures.rule c.letrec_node.ensures.ty

@@ -1,6 +1,6 @@
 use Rattle.std.proofs.Common.{◌-◌, arith}
 use Rattle.gh_core_lint.proofs.Bound.{bound_more}
-use Rattle.gh_core_lint.proofs.forms.bind_names.Goals as goal
+use Rattle.gh_core_lint.proofs.scope.bind_names.Goals as goal
 
 pub loop-left-preserved : goal.loop-left-preserved
 loop-left-preserved c = record {

@@ -2,7 +2,7 @@ use Rattle.std.proofs.Common.{ap, sym, ◌∙◌, ◌++◌, ◌∷◌, [], map, 
 use Rattle.std.proofs.lemmas.List.{map-append}
 use Rattle.gh_core_lint.specs.Types.{type_at}
 use Rattle.gh_core_lint.proofs.Bound.{written_more}
-use Rattle.gh_core_lint.proofs.forms.place_all.Goals as goal
+use Rattle.gh_core_lint.proofs.scope.place_all.Goals as goal
 
 pub loop-ty-preserved : goal.loop-ty-preserved
 loop-ty-preserved c =

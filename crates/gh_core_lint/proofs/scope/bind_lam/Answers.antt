@@ -1,7 +1,7 @@
 use Rattle.std.proofs.Common.{ap, [], ◌∷◌, Some}
 use Rattle.gh_core_lint.specs.declared.types.Node.{Node}
 use Rattle.gh_core_lint.specs.Types.{type_at}
-use Rattle.gh_core_lint.proofs.forms.bind_lam.Goals as goal
+use Rattle.gh_core_lint.proofs.scope.bind_lam.Goals as goal
 
 pub returns-clause-bound : goal.returns-clause-bound
 returns-clause-bound c =

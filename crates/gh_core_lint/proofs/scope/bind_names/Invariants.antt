@@ -2,7 +2,7 @@ use Rattle.std.proofs.Common.{◌≤◌, map, drop, length}
 use Rattle.gh_core.specs.Typing.{paired}
 use Rattle.gh_core_lint.specs.Bound.{Adds}
 use Rattle.gh_core_lint.specs.Types.{type_at}
-use Rattle.gh_core_lint.proofs.forms.bind_names.Given as goal
+use Rattle.gh_core_lint.proofs.scope.bind_names.Given as goal
 
 abbrev pub invariant-loop-left : goal.invariant-loop-left
 invariant-loop-left l = record {

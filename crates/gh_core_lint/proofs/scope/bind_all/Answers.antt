@@ -3,7 +3,7 @@ use Rattle.gh_core.specs.Typing.{paired, Types_of}
 use Rattle.gh_core_lint.specs.Bound.{Adds}
 use Rattle.gh_core_lint.specs.Types.{type_at}
 use Rattle.gh_core_lint.proofs.Bound.{paired_written}
-use Rattle.gh_core_lint.proofs.forms.bind_all.Goals as goal
+use Rattle.gh_core_lint.proofs.scope.bind_all.Goals as goal
 
 pub returns-clause-bound : goal.returns-clause-bound
 returns-clause-bound c =
