@@ -1,6 +1,7 @@
 pub mod Alternatives
 pub mod Applied
 pub mod Blaming
+pub mod Bound
 pub mod Chosen
 pub mod Codes
 pub mod Composed
@@ -16,8 +17,10 @@ pub mod Lookups
 pub mod Names
 pub mod Nodes
 pub mod OneFault
+pub mod PartsTyped
 pub mod Places
 pub mod Reported
 pub mod Results
+pub mod Scoped
 pub mod Typed
 pub mod Variables
