@@ -1,5 +1,5 @@
 -- What a stop says, and faults of longer lists.
-use Rattle.std.proofs.Common.{◌≡◌, ℕ, ◌+◌, ◌++◌, List, [], ◌∷◌, Option, Some, None, refl, ap, subst, inl, inr, arith}
+use Rattle.std.proofs.Common.{◌≡◌, ℕ, ◌+◌, ◌++◌, List, [], ◌∷◌, Option, None, refl, ap, subst, inl, inr, arith}
 use Rattle.gh_core.specs.declared.types.CoreType.{CoreType}
 use Rattle.gh_core.specs.SameType.{Nameless}
 use Rattle.gh_core.specs.Typing.{Program, Kinds, Types_of, Code, Branch, bindings_of, branches_of, HasType}
@@ -57,18 +57,3 @@ pub fail_before_else : (p : Program) (ks : Kinds) (gs : Types_of) (s : Nameless)
 fail_before_else p ks gs s n [] other f h = absurd h
 fail_before_else p ks gs s n (x ∷ xs) other f (inl h) = inl h
 fail_before_else p ks gs s n (x ∷ xs) other f (inr h) = inr (h.0, h.1, fail_before_else p ks gs s (n + nodes_branch x) xs other f h.2)
-
-pub else_fails : (p : Program) (ks : Kinds) (gs : Types_of) (s : Nameless) (n : ℕ) (xs : List Branch) (e : Code) (us : List Nameless) (f : Fault)
-    → BranchesHave p ks gs s (branches_of xs None) us → Fails p ks gs (n + nodes_chosen (branches_of xs None)) e f → BranchFails p ks gs s n (branches_of xs (Some e)) f
-else_fails p ks gs s n [] e us f h t = subst (λ (m : ℕ). Fails p ks gs m e f) (omega arith) t
-else_fails p ks gs s n (x ∷ xs) e us f h t =
-    inr (h.0, h.3, else_fails p ks gs s (n + nodes_branch x) xs e h.1 f h.4 (subst (λ (m : ℕ). Fails p ks gs m e f) (omega arith) t))
-
-pub else_has : (p : Program) (ks : Kinds) (gs : Types_of) (s : Nameless) (xs : List Branch) (e : Code) (us : List Nameless) (v : Nameless)
-    → BranchesHave p ks gs s (branches_of xs None) us → HasType p ks gs e v → BranchesHave p ks gs s (branches_of xs (Some e)) (us ++ v ∷ [])
-else_has p ks gs s [] e us v h t = (v, ap (λ l. l ++ v ∷ []) h, t)
-else_has p ks gs s (x ∷ xs) e us v h t = (h.0, h.1 ++ v ∷ [], ap (λ l. l ++ v ∷ []) h.2, h.3, else_has p ks gs s xs e h.1 v h.4 t)
-
-pub else_nodes : (xs : List Branch) (e : Code) → nodes_chosen (branches_of xs (Some e)) ≡ nodes_chosen (branches_of xs None) + nodes e
-else_nodes [] e = omega arith
-else_nodes (x ∷ xs) e = let h = else_nodes xs e in omega arith

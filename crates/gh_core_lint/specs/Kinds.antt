@@ -29,3 +29,8 @@ IsApplied f x (Some k) = (a : Kind) × (f ≡ Some (kind.Arrow a k)) × (x ≡ S
 abbrev pub IsStar : Option Kind → Option Kind → Type 0
 IsStar body None = body ≡ Some kind.Star → ⊥
 IsStar body (Some k) = (k ≡ kind.Star) × (body ≡ Some kind.Star)
+
+-- all types are of values
+abbrev pub AreStars : List DeclData → Kinds → List Nameless → Type 0
+AreStars decls ks [] = Unit {0}
+AreStars decls ks (t ∷ ts) = HasKind decls ks [] t kind.Star × AreStars decls ks ts

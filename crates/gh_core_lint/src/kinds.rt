@@ -1,5 +1,5 @@
 // The kinds of types.
-ghost use Rattle.std.specs.Prelude.{◌≡◌, ◌↔◌, slice_get, IfOk, IsTrue, Some};
+ghost use Rattle.std.specs.Prelude.{◌≡◌, ◌↔◌, [], slice_get, IfOk, IsTrue, Some};
 ghost use Rattle.gh_typeterm.specs.declared.kind.Kind.TheVariants as kind;
 ghost use Rattle.gh_core.specs.Typing.{arrow_kinds, con_kind, kind_at, HasKind};
 ghost use Rattle.gh_core_lint.specs.Kinds.{round, IsApplied, IsKind, IsStar};
@@ -169,4 +169,16 @@ pub fn has_kind(
         Some(found) => Ok(same_kind(&found, kind)),
         None => Ok(false),
     }
+}
+
+// Whether a type inside type variables is of values.
+pub fn is_value_type(
+    alloc: Global,
+    known: &Known,
+    kinds: &Binders<Kind>,
+    ty: &Type,
+) -> Result<bool, NoMemory>
+    ensures { IfOk result (λ holds. IsTrue holds ↔ HasKind (program_of known.now).decls kinds.now [] (type_at ty.now) kind.Star) }
+{
+    has_kind(alloc, known, kinds, &Round::Outside, ty, &Kind::Star)
 }
