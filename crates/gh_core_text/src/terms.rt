@@ -179,7 +179,7 @@ fn add_stop(
 
 // A term under its binders.
 #[cycle(text)]
-#[tactic(auto, using(crate::proofs::Forms::text_Var, crate::proofs::Forms::text_Int, crate::proofs::Forms::text_Char, crate::proofs::Forms::text_Str, crate::proofs::Forms::text_Prim, crate::proofs::Forms::text_Stop, crate::proofs::Weights::letrec_weight, crate::proofs::Weights::case_weight))]
+#[tactic(auto, using(crate::proofs::Weights::letrec_weight, crate::proofs::Weights::case_weight))]
 pub fn add_term(
     out: &mut Bytes,
     names: &Names,
@@ -238,7 +238,7 @@ pub fn add_term(
 
 // A function of one variable.
 #[cycle(text)]
-#[tactic(auto, using(crate::proofs::Places::take_back, crate::proofs::Forms::text_Lam))]
+#[tactic(auto, using(crate::proofs::Places::take_back))]
 fn add_lam(
     out: &mut Bytes,
     names: &Names,
@@ -265,7 +265,6 @@ fn add_lam(
 
 // A function and its argument.
 #[cycle(text)]
-#[tactic(auto, using(crate::proofs::Forms::text_App))]
 fn add_app(
     out: &mut Bytes,
     names: &Names,
@@ -288,7 +287,7 @@ fn add_app(
 
 // A function of one type.
 #[cycle(text)]
-#[tactic(auto, using(crate::proofs::Places::take_back, crate::proofs::Forms::text_TyLam))]
+#[tactic(auto, using(crate::proofs::Places::take_back))]
 fn add_tylam(
     out: &mut Bytes,
     names: &Names,
@@ -315,7 +314,6 @@ fn add_tylam(
 
 // A function and the type that it is applied to.
 #[cycle(text)]
-#[tactic(auto, using(crate::proofs::Forms::text_TyApp))]
 fn add_tyapp(
     out: &mut Bytes,
     names: &Names,
@@ -338,7 +336,7 @@ fn add_tyapp(
 
 // A term under bindings that refer to one another.
 #[cycle(text)]
-#[tactic(auto, using(crate::proofs::Places::take_back, crate::proofs::Shapes::letrec_out, crate::proofs::Shapes::letrec_needs))]
+#[tactic(auto, using(crate::proofs::Places::take_back, crate::proofs::Shapes::letrec_needs))]
 fn add_letrec(
     out: &mut Bytes,
     names: &Names,
@@ -391,7 +389,7 @@ fn add_bindings(
 
 // A choice by the form of a value.
 #[cycle(text)]
-#[tactic(auto, using(crate::proofs::Forms::text_Case, crate::proofs::Forms::needs_Case))]
+#[tactic(auto, using(crate::proofs::Forms::needs_Case))]
 fn add_case(
     out: &mut Bytes,
     names: &Names,
