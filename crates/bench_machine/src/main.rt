@@ -53,108 +53,218 @@ fn value(module: NameId, name: NameId) -> Origin {
     }
 }
 
-fn prelude(name: NameId) -> ErasedTerm {
-    ErasedTerm::Con(value(PRELUDE, name))
+fn boxed(alloc: Global, term: ErasedTerm) -> Result<Boxed<ErasedTerm>, NoMemory> {
+    Ok(Boxed::new(alloc, term)?)
 }
 
-fn global() -> ErasedTerm {
-    ErasedTerm::Global(CoreName::Plain(value(MAIN_MODULE, MAIN)))
+fn prelude(alloc: Global, name: NameId) -> Result<Boxed<ErasedTerm>, NoMemory> {
+    boxed(alloc, ErasedTerm::Con(value(PRELUDE, name)))
 }
 
-fn app(alloc: Global, f: ErasedTerm, e: ErasedTerm) -> Result<ErasedTerm, NoMemory> {
-    Ok(ErasedTerm::App(Boxed::new(alloc, f)?, Boxed::new(alloc, e)?))
+fn global(alloc: Global) -> Result<Boxed<ErasedTerm>, NoMemory> {
+    boxed(
+        alloc,
+        ErasedTerm::Global(CoreName::Plain(value(MAIN_MODULE, MAIN))),
+    )
 }
 
-fn lam(alloc: Global, body: ErasedTerm) -> Result<ErasedTerm, NoMemory> {
-    Ok(ErasedTerm::Lam(0, Boxed::new(alloc, body)?))
+fn var(alloc: Global, number: u32) -> Result<Boxed<ErasedTerm>, NoMemory> {
+    boxed(alloc, ErasedTerm::Var(number))
+}
+
+fn int(alloc: Global, number: i64) -> Result<Boxed<ErasedTerm>, NoMemory> {
+    boxed(alloc, ErasedTerm::Int(number))
+}
+
+fn app(
+    alloc: Global,
+    f: Boxed<ErasedTerm>,
+    e: Boxed<ErasedTerm>,
+) -> Result<Boxed<ErasedTerm>, NoMemory> {
+    boxed(alloc, ErasedTerm::App(f, e))
+}
+
+// The definition at an argument.
+fn call(alloc: Global, argument: Boxed<ErasedTerm>) -> Result<Boxed<ErasedTerm>, NoMemory> {
+    let function = global(alloc)?;
+    app(alloc, function, argument)
+}
+
+fn lam(alloc: Global, body: Boxed<ErasedTerm>) -> Result<Boxed<ErasedTerm>, NoMemory> {
+    boxed(alloc, ErasedTerm::Lam(0, body))
 }
 
 // A primitive on two operands.
 fn binary(
     alloc: Global,
     name: NameId,
-    first: ErasedTerm,
-    second: ErasedTerm,
-) -> Result<ErasedTerm, NoMemory> {
-    let primitive = ErasedTerm::Prim(value(PRELUDE, name), PLACE);
-    app(alloc, app(alloc, primitive, first)?, second)
+    first: Boxed<ErasedTerm>,
+    second: Boxed<ErasedTerm>,
+) -> Result<Boxed<ErasedTerm>, NoMemory> {
+    let primitive = boxed(alloc, ErasedTerm::Prim(value(PRELUDE, name), PLACE))?;
+    let partial = app(alloc, primitive, first)?;
+    app(alloc, partial, second)
 }
 
-fn case(
+// A function that chooses by the form of a term.
+fn choosing(
     alloc: Global,
-    of: ErasedTerm,
+    of: Boxed<ErasedTerm>,
     alternatives: ListOf<ErasedAlt>,
-) -> Result<ErasedTerm, NoMemory> {
-    Ok(ErasedTerm::Case(Boxed::new(alloc, of)?, alternatives, None))
+) -> Result<Boxed<ErasedTerm>, NoMemory> {
+    let case = boxed(alloc, ErasedTerm::Case(of, alternatives, None))?;
+    lam(alloc, case)
 }
 
-fn looping(alloc: Global) -> Result<ErasedTerm, NoMemory> {
+// An alternative for a constructor of the Prelude.
+fn alternative(
+    alloc: Global,
+    name: NameId,
+    fields: &[u32],
+    body: Boxed<ErasedTerm>,
+) -> Result<ErasedAlt, NoMemory> {
+    let fields = ListOf::from_slice(alloc, fields)?;
+    Ok(ErasedAlt::Con(value(PRELUDE, name), fields, body.into_inner()))
+}
+
+fn turn(alloc: Global, from: i64, to: i64) -> Result<ErasedAlt, NoMemory> {
+    let next = int(alloc, to)?;
+    Ok(ErasedAlt::Int(from, call(alloc, next)?.into_inner()))
+}
+
+fn looping(alloc: Global) -> Result<Boxed<ErasedTerm>, NoMemory> {
     let mut alternatives = ListOf::new(alloc);
     for (from, to) in [(0, 1), (1, 2), (2, 0)] {
-        alternatives.push(ErasedAlt::Int(from, app(alloc, global(), ErasedTerm::Int(to))?))?;
+        alternatives.push(turn(alloc, from, to)?)?;
     }
-    lam(alloc, case(alloc, ErasedTerm::Var(0), alternatives)?)
+    let of = var(alloc, 0)?;
+    choosing(alloc, of, alternatives)
 }
 
-fn walking(alloc: Global) -> Result<ErasedTerm, NoMemory> {
+fn characters(alloc: Global) -> Result<Boxed<ErasedTerm>, NoMemory> {
     let mut chars = ListOf::new(alloc);
     for _ in 0..100_000 {
         chars.push('a')?;
     }
-    let mut alternatives = ListOf::new(alloc);
-    alternatives.push(ErasedAlt::Con(
-        value(PRELUDE, CONS),
-        ListOf::from_slice(alloc, &[1, 2])?,
-        app(alloc, global(), ErasedTerm::Var(2))?,
-    ))?;
-    alternatives.push(ErasedAlt::Con(
-        value(PRELUDE, NIL),
-        ListOf::new(alloc),
-        app(alloc, global(), ErasedTerm::Str(chars))?,
-    ))?;
-    lam(alloc, case(alloc, ErasedTerm::Var(0), alternatives)?)
+    boxed(alloc, ErasedTerm::Str(chars))
 }
 
-fn printing(alloc: Global) -> Result<ErasedTerm, NoMemory> {
-    let head = app(alloc, prelude(CONS), ErasedTerm::Char('a'))?;
+fn cell_of_walking(alloc: Global) -> Result<ErasedAlt, NoMemory> {
+    let rest = var(alloc, 2)?;
+    let body = call(alloc, rest)?;
+    alternative(alloc, CONS, &[1, 2], body)
+}
+
+fn end_of_walking(alloc: Global) -> Result<ErasedAlt, NoMemory> {
+    let chars = characters(alloc)?;
+    let body = call(alloc, chars)?;
+    alternative(alloc, NIL, &[], body)
+}
+
+fn walks(alloc: Global) -> Result<ListOf<ErasedAlt>, NoMemory> {
+    let mut alternatives = ListOf::new(alloc);
+    alternatives.push(cell_of_walking(alloc)?)?;
+    alternatives.push(end_of_walking(alloc)?)?;
+    Ok(alternatives)
+}
+
+fn walking(alloc: Global) -> Result<Boxed<ErasedTerm>, NoMemory> {
+    let alternatives = walks(alloc)?;
+    let of = var(alloc, 0)?;
+    choosing(alloc, of, alternatives)
+}
+
+fn endless(alloc: Global) -> Result<Boxed<ErasedTerm>, NoMemory> {
+    let cons = prelude(alloc, CONS)?;
+    let item = boxed(alloc, ErasedTerm::Char('a'))?;
+    let head = app(alloc, cons, item)?;
+    let tail = var(alloc, 0)?;
+    app(alloc, head, tail)
+}
+
+fn printing(alloc: Global) -> Result<Boxed<ErasedTerm>, NoMemory> {
+    let list = endless(alloc)?;
     let mut bindings = ListOf::new(alloc);
-    bindings.push((0, app(alloc, head, ErasedTerm::Var(0))?))?;
-    Ok(ErasedTerm::LetRec(bindings, Boxed::new(alloc, ErasedTerm::Var(0))?))
+    bindings.push((0, list.into_inner()))?;
+    let body = var(alloc, 0)?;
+    boxed(alloc, ErasedTerm::LetRec(bindings, body))
 }
 
-fn deep(alloc: Global) -> Result<ErasedTerm, NoMemory> {
-    let less = binary(alloc, MINUS, ErasedTerm::Var(0), ErasedTerm::Int(1))?;
+// A primitive on the variable and a number.
+fn with_number(alloc: Global, name: NameId, number: i64) -> Result<Boxed<ErasedTerm>, NoMemory> {
+    let first = var(alloc, 0)?;
+    let second = int(alloc, number)?;
+    binary(alloc, name, first, second)
+}
+
+fn end_of_deep(alloc: Global) -> Result<ErasedAlt, NoMemory> {
+    let body = prelude(alloc, NIL)?;
+    alternative(alloc, TRUE, &[], body)
+}
+
+fn further(alloc: Global) -> Result<ErasedAlt, NoMemory> {
+    let less = with_number(alloc, MINUS, 1)?;
+    let body = call(alloc, less)?;
+    alternative(alloc, FALSE, &[], body)
+}
+
+fn depths(alloc: Global) -> Result<ListOf<ErasedAlt>, NoMemory> {
     let mut alternatives = ListOf::new(alloc);
-    alternatives.push(ErasedAlt::Con(value(PRELUDE, TRUE), ListOf::new(alloc), prelude(NIL)))?;
-    alternatives.push(ErasedAlt::Con(
-        value(PRELUDE, FALSE),
-        ListOf::new(alloc),
-        app(alloc, global(), less)?,
-    ))?;
-    let test = binary(alloc, EQUAL, ErasedTerm::Var(0), ErasedTerm::Int(0))?;
-    lam(alloc, case(alloc, test, alternatives)?)
+    alternatives.push(end_of_deep(alloc)?)?;
+    alternatives.push(further(alloc)?)?;
+    Ok(alternatives)
+}
+
+fn deep(alloc: Global) -> Result<Boxed<ErasedTerm>, NoMemory> {
+    let alternatives = depths(alloc)?;
+    let test = with_number(alloc, EQUAL, 0)?;
+    choosing(alloc, test, alternatives)
+}
+
+fn one_less(alloc: Global) -> Result<Boxed<ErasedTerm>, NoMemory> {
+    let all = global(alloc)?;
+    let one = int(alloc, 1)?;
+    binary(alloc, MINUS, all, one)
+}
+
+fn definition(alloc: Global, shape: Shape) -> Result<Boxed<ErasedTerm>, NoMemory> {
+    match shape {
+        Shape::Loop => looping(alloc),
+        Shape::List => walking(alloc),
+        Shape::Print => printing(alloc),
+        Shape::Deep => deep(alloc),
+        Shape::Stack => one_less(alloc),
+    }
+}
+
+fn start_at(alloc: Global, number: i64) -> Result<Boxed<ErasedTerm>, NoMemory> {
+    let number = int(alloc, number)?;
+    call(alloc, number)
+}
+
+fn start_at_nil(alloc: Global) -> Result<Boxed<ErasedTerm>, NoMemory> {
+    let nil = prelude(alloc, NIL)?;
+    call(alloc, nil)
+}
+
+fn start(alloc: Global, shape: Shape) -> Result<Boxed<ErasedTerm>, NoMemory> {
+    match shape {
+        Shape::Loop => start_at(alloc, 0),
+        Shape::List => start_at_nil(alloc),
+        Shape::Print | Shape::Stack => global(alloc),
+        Shape::Deep => start_at(alloc, 1_000_000_000),
+    }
 }
 
 fn program(alloc: Global, shape: Shape) -> Result<Erased, NoMemory> {
-    let (term, main) = match shape {
-        Shape::Loop => (looping(alloc)?, app(alloc, global(), ErasedTerm::Int(0))?),
-        Shape::List => (walking(alloc)?, app(alloc, global(), prelude(NIL))?),
-        Shape::Print => (printing(alloc)?, global()),
-        Shape::Deep => (
-            deep(alloc)?,
-            app(alloc, global(), ErasedTerm::Int(1_000_000_000))?,
-        ),
-        Shape::Stack => (
-            binary(alloc, MINUS, global(), ErasedTerm::Int(1))?,
-            global(),
-        ),
-    };
+    let main = start(alloc, shape)?;
+    let term = definition(alloc, shape)?;
     let mut defs = ListOf::new(alloc);
-    defs.push((CoreName::Plain(value(MAIN_MODULE, MAIN)), term))?;
+    defs.push((CoreName::Plain(value(MAIN_MODULE, MAIN)), term.into_inner()))?;
     Ok(Erased {
         newtypes: ListOf::new(alloc),
         defs,
-        main,
+        main: main.into_inner(),
     })
 }
 

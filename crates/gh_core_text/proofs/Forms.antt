@@ -1,6 +1,6 @@
 -- The text of each form of term.
 use Rattle.std.proofs.Common.{◌≡◌, ◌++◌, List, [], sym, ap, ◌∙◌, map}
-use Rattle.std.specs.Prelude.{ℕ, ℤ, length, codes, decimal, Option, Some, None}
+use Rattle.std.specs.Prelude.{ℕ, ℤ, length, codes, decimal, max, option_map, Option, Some, None}
 use Rattle.std.specs.Fmt.{signed_decimal}
 use Rattle.gh_base.specs.declared.place.Origin.{Origin}
 use Rattle.gh_base.specs.declared.place.Span.{Span}
@@ -11,7 +11,8 @@ use Rattle.gh_core.specs.declared.terms.CoreTerm.TheVariants as c
 use Rattle.gh_core.specs.declared.terms.CoreAlt.{CoreAlt}
 use Rattle.gh_core.specs.declared.terms.CoreAlt.TheOpen.{CoreTerm-F}
 use Rattle.gh_core.specs.Levels.{Scope, within, level_of}
-use Rattle.gh_core.specs.Text.{Table, Text, numbers_text, origin_text, place_text, result_text, binder_text, type_binder, type_text, alts_text, alt_text, term_text, alt_step, term_step}
+use Rattle.gh_core_text.specs.Needs.{needs_type, needs_alt, needs_all, needs_else, needs_term, needs_alt_step, needs_term_step}
+use Rattle.gh_core.specs.Text.{Table, Text, numbers_text, origin_text, place_text, result_text, binder_text, type_binder, type_text, alts_text, alt_text, else_text, term_text, alt_step, term_step}
 
 pub text_Var : (table : Table) (x : ℕ) (vs ts : Scope) → term_text table (c.Var x) vs ts ≡ codes "v" ++ decimal (level_of vs x)
 text_Var table x vs ts = ap (λ t. term_text table t vs ts) (sym (c.rolls-Var x)) ∙ ap (λ f. f vs ts) (fold-roll-CoreTerm Text Text (alt_step table) (term_step table) (CoreTerm-F.Var x))
@@ -48,3 +49,11 @@ text_Case_plain table t ty alts vs ts = ap (λ u. term_text table u vs ts) (sym 
 
 pub text_Case_else : (table : Table) (t : CoreTerm) (ty : CoreType) (alts : List CoreAlt) (other : CoreTerm) (vs ts : Scope) → term_text table (c.Case t ty alts (Some other)) vs ts ≡ codes "(case " ++ (term_text table t vs ts ++ (codes " " ++ (type_text table ty ts ++ (alts_text (map (alt_text table) alts) vs ts ++ ((codes " (else " ++ (term_text table other vs ts ++ codes ")")) ++ codes ")")))))
 text_Case_else table t ty alts other vs ts = ap (λ u. term_text table u vs ts) (sym (c.rolls-Case t ty alts (Some other))) ∙ ap (λ f. f vs ts) (fold-roll-CoreTerm Text Text (alt_step table) (term_step table) (CoreTerm-F.Case t ty alts (Some other)))
+
+pub text_Case : (table : Table) (t : CoreTerm) (ty : CoreType) (alts : List CoreAlt) (o : Option CoreTerm) (vs ts : Scope) → term_text table (c.Case t ty alts o) vs ts ≡ codes "(case " ++ (term_text table t vs ts ++ (codes " " ++ (type_text table ty ts ++ (alts_text (map (alt_text table) alts) vs ts ++ (else_text (option_map (term_text table) o) vs ts ++ codes ")")))))
+text_Case table t ty alts None vs ts = text_Case_plain table t ty alts vs ts
+text_Case table t ty alts (Some other) vs ts = text_Case_else table t ty alts other vs ts
+
+pub needs_Case : (t : CoreTerm) (ty : CoreType) (alts : List CoreAlt) (o : Option CoreTerm) → needs_term (c.Case t ty alts o) ≡ max (max (needs_term t) (needs_type ty)) (max (needs_all (map needs_alt alts)) (needs_else (option_map needs_term o)))
+needs_Case t ty alts None = ap needs_term (sym (c.rolls-Case t ty alts None)) ∙ fold-roll-CoreTerm ℕ ℕ needs_alt_step needs_term_step (CoreTerm-F.Case t ty alts None)
+needs_Case t ty alts (Some o) = ap needs_term (sym (c.rolls-Case t ty alts (Some o))) ∙ fold-roll-CoreTerm ℕ ℕ needs_alt_step needs_term_step (CoreTerm-F.Case t ty alts (Some o))

@@ -14,3 +14,4 @@ pub mod Shows
 pub mod TypeForms
 pub mod TypesRead
 pub mod Words
+pub mod Weights

@@ -1,13 +1,13 @@
 // Programs as text.
 ghost use Rattle.std.specs.Prelude.{◌≡◌, ◌≤◌, ◌++◌, [], length, OnOk, IfOk};
-ghost use Rattle.gh_core_text.specs.Needs.{needs_fields, needs_con, needs_cons, needs_decl, needs_decls, needs_def, needs_defs, needs_program};
-ghost use Rattle.gh_core.specs.Text.{params_text, fields_text, con_text, cons_text, data_word, decl_text, decls_text, def_text, defs_text, program_text};
+ghost use Rattle.gh_core_text.specs.Needs.{needs_type, needs_term, needs_fields, needs_con, needs_cons, needs_decl, needs_decls, needs_def, needs_defs, needs_program};
+ghost use Rattle.gh_core.specs.Text.{type_text, term_text, params_text, fields_text, con_text, cons_text, data_word, decl_text, decls_text, def_text, defs_text, program_text};
 
 use crate::binders::Binders;
 use crate::terms::add_term;
 use crate::types::{add, add_core_name, add_field, add_gap, add_origin, add_type, add_type_binder};
 use gh_base::{Bytes, ListOf, Names, NoMemory};
-use gh_core::{CoreProgram, Def};
+use gh_core::{CoreProgram, CoreTerm, CoreType, Def};
 use gh_typeterm::{DeclCon, DeclData, Kind, Ty};
 use std::alloc::Global;
 
@@ -84,18 +84,45 @@ fn add_decls(out: &mut Bytes, names: &Names, decls: &[DeclData]) -> Result<(), N
     Ok(())
 }
 
+// A type that stands inside no binder.
+fn add_closed_type(
+    alloc: Global,
+    out: &mut Bytes,
+    names: &Names,
+    ty: &CoreType,
+) -> Result<(), NoMemory>
+    requires { needs_type ty.now ≤ length names.now }
+    ensures { OnOk result (out.new ≡ out.old ++ type_text names.now ty.now []) }
+{
+    let mut types = Binders::new(alloc);
+    add_type(out, names, &mut types, ty, false)
+}
+
+// A term that stands inside no binder.
+fn add_closed_term(
+    alloc: Global,
+    out: &mut Bytes,
+    names: &Names,
+    term: &CoreTerm,
+) -> Result<(), NoMemory>
+    requires { needs_term term.now ≤ length names.now }
+    ensures { OnOk result (out.new ≡ out.old ++ term_text names.now term.now [] []) }
+{
+    let mut variables = Binders::new(alloc);
+    let mut types = Binders::new(alloc);
+    add_term(out, names, &mut variables, &mut types, term)
+}
+
 fn add_def(alloc: Global, out: &mut Bytes, names: &Names, def: &Def) -> Result<(), NoMemory>
     requires { needs_def def.now ≤ length names.now }
     ensures { OnOk result (out.new ≡ out.old ++ def_text names.now def.now) }
 {
-    let mut variables = Binders::new(alloc);
-    let mut types = Binders::new(alloc);
     add(out, b"(def ")?;
     add_core_name(out, names, def.name)?;
     add(out, b" ")?;
-    add_type(out, names, &mut types, &def.ty, false)?;
+    add_closed_type(alloc, out, names, &def.ty)?;
     add(out, b"\n ")?;
-    add_term(out, names, &mut variables, &mut types, &def.term)?;
+    add_closed_term(alloc, out, names, &def.term)?;
     add(out, b")\n")
 }
 
@@ -109,6 +136,23 @@ fn add_defs(alloc: Global, out: &mut Bytes, names: &Names, defs: &[Def]) -> Resu
     Ok(())
 }
 
+fn add_program(
+    alloc: Global,
+    out: &mut Bytes,
+    names: &Names,
+    program: &CoreProgram,
+) -> Result<(), NoMemory>
+    requires { needs_program program.now ≤ length names.now }
+    ensures { OnOk result (out.new ≡ out.old ++ program_text names.now program.now) }
+{
+    add(out, b"(core 1\n")?;
+    add_decls(out, names, program.decls.as_slice())?;
+    add_defs(alloc, out, names, program.defs.as_slice())?;
+    add(out, b"(main ")?;
+    add_closed_term(alloc, out, names, &program.main)?;
+    add(out, b"))\n")
+}
+
 /// The text of a program of typed core: a line that opens it, its datatypes, its definitions and its `main`, each
 /// ended by a line feed. A variable is printed as its level: `v` for a variable of terms and `t` for one of types, with
 /// the number of binders of its sort, in the same item, that were bound before it. So the text does not depend on the
@@ -119,13 +163,6 @@ pub fn core_text(alloc: Global, names: &Names, program: &CoreProgram) -> Result<
     ensures { IfOk result (λ text. text ≡ program_text names.now program.now) }
 {
     let mut out = ListOf::new(alloc);
-    let mut variables = Binders::new(alloc);
-    let mut types = Binders::new(alloc);
-    add(&mut out, b"(core 1\n")?;
-    add_decls(&mut out, names, program.decls.as_slice())?;
-    add_defs(alloc, &mut out, names, program.defs.as_slice())?;
-    add(&mut out, b"(main ")?;
-    add_term(&mut out, names, &mut variables, &mut types, &program.main)?;
-    add(&mut out, b"))\n")?;
+    add_program(alloc, &mut out, names, program)?;
     Ok(out)
 }

@@ -1,7 +1,8 @@
 // Names, kinds and types as text.
-ghost use Rattle.std.specs.Prelude.{◌≡◌, ◌≤◌, ◌++◌, length, OnOk, decimal};
+ghost use Rattle.std.specs.Prelude.{◌≡◌, ◌≤◌, ◌++◌, codes, length, IfOk, OnOk, decimal};
 ghost use Rattle.gh_base.specs.Ids.{text_in};
 ghost use Rattle.gh_core_text.specs.Needs.{needs_id, needs_origin, needs_tycon, needs_name, needs_type, needs_field};
+ghost use Rattle.gh_core.specs.Levels.{level_of, within};
 ghost use Rattle.gh_core.specs.Text.{origin_text, tycon_text, head_text, braced, core_name_text, kind_text, opening, closing, type_binder, spine_text, field_text, place_text, gap};
 
 use crate::binders::Binders;
@@ -164,6 +165,37 @@ fn add_closing(out: &mut Bytes, inside: bool) -> Result<(), NoMemory>
     add(out, b")")
 }
 
+// A variable of types.
+fn add_type_variable(out: &mut Bytes, types: &Binders, x: u32) -> Result<(), NoMemory>
+    ensures { OnOk result (out.new ≡ out.old ++ (codes "t" ++ decimal (level_of types.now x))) }
+{
+    add(out, b"t")?;
+    add_number(out, types.level(x))
+}
+
+// A type that stands for any of its kind.
+fn add_any(out: &mut Bytes, kind: &Kind) -> Result<(), NoMemory>
+    ensures { OnOk result (out.new ≡ out.old ++ (codes "(any " ++ (kind_text kind.now ++ codes ")"))) }
+{
+    add(out, b"(any ")?;
+    add_kind(out, kind)?;
+    add(out, b")")
+}
+
+// What stands before the body of a type for all types, whose variable it binds. Answers the number of binders before.
+fn open_forall(out: &mut Bytes, types: &mut Binders, x: u32, kind: &Kind) -> Result<usize, NoMemory>
+    ensures text { OnOk result (out.new ≡ out.old ++ (codes "(forall " ++ (type_binder (length types.old) kind.now ++ codes " "))) }
+    ensures bound { OnOk result (types.new ≡ within types.old x) }
+    ensures count { IfOk result (λ count. count ≡ length types.old) }
+{
+    let count = types.count();
+    add(out, b"(forall ")?;
+    add_type_binder(out, count, kind)?;
+    add(out, b" ")?;
+    types.bind(x)?;
+    Ok(count)
+}
+
 // A type, by itself or as the head of a spine.
 #[tactic(auto, using(crate::proofs::Places::take_back))]
 pub fn add_type(
@@ -178,10 +210,7 @@ pub fn add_type(
     ensures types { OnOk result (types.new ≡ types.old) }
 {
     match ty {
-        CoreType::Var(x) => {
-            add(out, b"t")?;
-            add_number(out, types.level(*x))
-        }
+        CoreType::Var(x) => add_type_variable(out, types, *x),
         CoreType::Con(con) => add_tycon(out, names, *con),
         CoreType::App(function, argument) => {
             add_opening(out, inside)?;
@@ -191,20 +220,12 @@ pub fn add_type(
             add_closing(out, inside)
         }
         CoreType::Forall(x, kind, body) => {
-            let count = types.count();
-            add(out, b"(forall ")?;
-            add_type_binder(out, count, kind)?;
-            add(out, b" ")?;
-            types.bind(*x)?;
+            let count = open_forall(out, types, *x, kind)?;
             add_type(out, names, types, body.get(), false)?;
             types.keep(count);
             add(out, b")")
         }
-        CoreType::Any(kind) => {
-            add(out, b"(any ")?;
-            add_kind(out, kind)?;
-            add(out, b")")
-        }
+        CoreType::Any(kind) => add_any(out, kind),
     }
 }
 

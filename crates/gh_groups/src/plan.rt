@@ -342,6 +342,110 @@ fn waits_of(
     Ok(waits)
 }
 
+// A plan of numbers that are in no group yet.
+fn empty_plan(alloc: Global, count: usize) -> Result<Plan, NoMemory> {
+    Ok(Plan {
+        places: all(alloc, count, 0)?,
+        indexes: all(alloc, count, 0)?,
+        ups: all(alloc, count, NONE)?,
+        up_ranks: all(alloc, count, 0)?,
+        downs: all(alloc, count, NONE)?,
+        down_ranks: all(alloc, count, 0)?,
+        waits: Vec::new(alloc),
+    })
+}
+
+// Gives each member of a group its place, which is the group's, and its index in the group.
+fn place_members(plan: &mut Plan, place: usize, members: &[u32]) {
+    for (index, number) in members.iter().enumerate() {
+        set(plan.places.as_mut_slice(), *number as usize, low(place));
+        set(plan.indexes.as_mut_slice(), *number as usize, low(index));
+    }
+}
+
+// The edges by which the members of a group reach its first number, and by which it reaches them.
+fn spread_both(
+    alloc: Global,
+    graph: &Graph,
+    parts: &[u32],
+    first: u32,
+    plan: &mut Plan,
+) -> Result<(), NoMemory> {
+    let ups = plan.ups.as_mut_slice();
+    spread(
+        alloc,
+        graph,
+        parts,
+        first,
+        true,
+        ups,
+        plan.up_ranks.as_mut_slice(),
+    )?;
+    let downs = plan.downs.as_mut_slice();
+    spread(
+        alloc,
+        graph,
+        parts,
+        first,
+        false,
+        downs,
+        plan.down_ranks.as_mut_slice(),
+    )
+}
+
+// One group more, at this place.
+fn add_group(
+    alloc: Global,
+    graph: &Graph,
+    parts: &[u32],
+    members: &[u32],
+    place: usize,
+    groups: &mut ListOf<ListOf<u32>>,
+    plan: &mut Plan,
+) -> Result<(), NoMemory> {
+    place_members(plan, place, members);
+    spread_both(alloc, graph, parts, nth(members, 0), plan)?;
+    groups.push(ListOf::from_slice(alloc, members)?)
+}
+
+// All groups, in the order of their components.
+fn add_groups(
+    alloc: Global,
+    graph: &Graph,
+    parts: &Parts,
+    order: &[u32],
+    groups: &mut ListOf<ListOf<u32>>,
+    plan: &mut Plan,
+) -> Result<(), NoMemory> {
+    for (place, part) in order.iter().enumerate() {
+        let members = parts.members.of(*part);
+        add_group(
+            alloc,
+            graph,
+            parts.of.as_slice(),
+            members,
+            place,
+            groups,
+            plan,
+        )?;
+    }
+    plan.waits = waits_of(alloc, graph.edges, plan.places.as_slice(), order.len())?;
+    Ok(())
+}
+
+// The groups of components in this order, and their plan.
+fn planned(
+    alloc: Global,
+    graph: &Graph,
+    parts: &Parts,
+    order: &[u32],
+) -> Result<(ListOf<ListOf<u32>>, Plan), NoMemory> {
+    let mut plan = empty_plan(alloc, graph.count as usize)?;
+    let mut groups = ListOf::new(alloc);
+    add_groups(alloc, graph, parts, order, &mut groups, &mut plan)?;
+    Ok((groups, plan))
+}
+
 // The groups in their order, and why they are the right ones.
 pub(crate) fn search(
     alloc: Global,
@@ -351,44 +455,5 @@ pub(crate) fn search(
     let graph = make_graph(alloc, count, edges)?;
     let mut parts = make_parts(alloc, &graph)?;
     let order = part_order(alloc, &graph, &mut parts)?;
-    let numbers = count as usize;
-    let mut groups = ListOf::new(alloc);
-    let mut plan = Plan {
-        places: all(alloc, numbers, 0)?,
-        indexes: all(alloc, numbers, 0)?,
-        ups: all(alloc, numbers, NONE)?,
-        up_ranks: all(alloc, numbers, 0)?,
-        downs: all(alloc, numbers, NONE)?,
-        down_ranks: all(alloc, numbers, 0)?,
-        waits: Vec::new(alloc),
-    };
-    for (place, part) in order.as_slice().iter().enumerate() {
-        let members = parts.members.of(*part);
-        for (index, number) in members.iter().enumerate() {
-            set(plan.places.as_mut_slice(), *number as usize, low(place));
-            set(plan.indexes.as_mut_slice(), *number as usize, low(index));
-        }
-        let first = nth(members, 0);
-        spread(
-            alloc,
-            &graph,
-            parts.of.as_slice(),
-            first,
-            true,
-            plan.ups.as_mut_slice(),
-            plan.up_ranks.as_mut_slice(),
-        )?;
-        spread(
-            alloc,
-            &graph,
-            parts.of.as_slice(),
-            first,
-            false,
-            plan.downs.as_mut_slice(),
-            plan.down_ranks.as_mut_slice(),
-        )?;
-        groups.push(ListOf::from_slice(alloc, members)?)?;
-    }
-    plan.waits = waits_of(alloc, edges, plan.places.as_slice(), order.len())?;
-    Ok((groups, plan))
+    planned(alloc, &graph, &parts, order.as_slice())
 }

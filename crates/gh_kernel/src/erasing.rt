@@ -30,6 +30,14 @@ fn erase_term<A>(alloc: Global, term: &Term<A>) -> Result<Term<()>, NoMemory>
 }
 
 #[cycle(erase)]
+fn erase_boxed<A>(alloc: Global, term: &Term<A>) -> Result<Boxed<Term<()>>, NoMemory>
+    ensures { IfOk result (λ made. made ≡ erased term.now) }
+{
+    let made = erase_term(alloc, term)?;
+    Ok(Boxed::new(alloc, made)?)
+}
+
+#[cycle(erase)]
 fn erase_node<A>(alloc: Global, node: &TermNode<A>) -> Result<TermNode<()>, NoMemory>
     ensures { IfOk result (λ made. made ≡ erased_node node.now) }
 {
@@ -37,18 +45,15 @@ fn erase_node<A>(alloc: Global, node: &TermNode<A>) -> Result<TermNode<()>, NoMe
         TermNode::Var(name) => Ok(TermNode::Var(*name)),
         TermNode::Con(con) => Ok(TermNode::Con(*con)),
         TermNode::Lit(lit) => Ok(TermNode::Lit(copy_lit(alloc, lit)?)),
-        TermNode::Lam(name, body) => {
-            let body = Boxed::new(alloc, erase_term(alloc, body.get())?)?;
-            Ok(TermNode::Lam(*name, body))
-        }
+        TermNode::Lam(name, body) => Ok(TermNode::Lam(*name, erase_boxed(alloc, body.get())?)),
         TermNode::App(function, argument) => {
-            let function = Boxed::new(alloc, erase_term(alloc, function.get())?)?;
-            let argument = Boxed::new(alloc, erase_term(alloc, argument.get())?)?;
+            let function = erase_boxed(alloc, function.get())?;
+            let argument = erase_boxed(alloc, argument.get())?;
             Ok(TermNode::App(function, argument))
         }
         TermNode::Let(groups, body) => {
             let groups = erase_groups(alloc, groups.as_slice())?;
-            let body = Boxed::new(alloc, erase_term(alloc, body.get())?)?;
+            let body = erase_boxed(alloc, body.get())?;
             Ok(TermNode::Let(groups, body))
         }
         TermNode::Case(terms, rows) => {
@@ -59,11 +64,11 @@ fn erase_node<A>(alloc: Global, node: &TermNode<A>) -> Result<TermNode<()>, NoMe
         TermNode::Call(function, at) => Ok(TermNode::Call(*function, at.share()?)),
         TermNode::Redef(number, name, pairs, body) => {
             let pairs = erase_pairs(alloc, pairs.as_slice())?;
-            let body = Boxed::new(alloc, erase_term(alloc, body.get())?)?;
+            let body = erase_boxed(alloc, body.get())?;
             Ok(TermNode::Redef(*number, *name, pairs, body))
         }
         TermNode::Ann(term, signed) => {
-            let term = Boxed::new(alloc, erase_term(alloc, term.get())?)?;
+            let term = erase_boxed(alloc, term.get())?;
             Ok(TermNode::Ann(term, copy_signed(alloc, signed)?))
         }
     }
@@ -198,6 +203,17 @@ fn erase_pattern<A>(alloc: Global, pattern: &Pattern<A>) -> Result<Pattern<()>, 
 }
 
 #[cycle(erase_pattern)]
+fn erase_boxed_pattern<A>(
+    alloc: Global,
+    pattern: &Pattern<A>,
+) -> Result<Boxed<Pattern<()>>, NoMemory>
+    ensures { IfOk result (λ made. made ≡ erased_pattern pattern.now) }
+{
+    let made = erase_pattern(alloc, pattern)?;
+    Ok(Boxed::new(alloc, made)?)
+}
+
+#[cycle(erase_pattern)]
 fn erase_pattern_node<A>(alloc: Global, node: &PatternNode<A>) -> Result<PatternNode<()>, NoMemory>
     ensures { IfOk result (λ made. made ≡ erased_pattern_node node.now) }
 {
@@ -210,7 +226,7 @@ fn erase_pattern_node<A>(alloc: Global, node: &PatternNode<A>) -> Result<Pattern
         }
         PatternNode::PLit(lit) => Ok(PatternNode::PLit(copy_lit(alloc, lit)?)),
         PatternNode::PAs(name, pattern) => {
-            let pattern = Boxed::new(alloc, erase_pattern(alloc, pattern.get())?)?;
+            let pattern = erase_boxed_pattern(alloc, pattern.get())?;
             Ok(PatternNode::PAs(*name, pattern))
         }
     }

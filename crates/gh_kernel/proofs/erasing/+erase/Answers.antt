@@ -3,7 +3,7 @@ use Rattle.std.specs.Prelude.{option_map}
 use Rattle.gh_kernel.specs.declared.terms.Term.{Term}
 use Rattle.gh_kernel.proofs.erasing.+erase.Goals.{erase_bodies-in-Some+in_ok-erase_term-in-Some, erase_bodies-in-None}
 use Rattle.gh_kernel.specs.declared.terms.Row.{out-Row, roll-Row}
-use Rattle.gh_kernel.specs.Erase.{unit, erased, erased_binding, erased_body, erased_pattern}
+use Rattle.gh_kernel.specs.Erase.{unit, erased, erased_binding, erased_body, erased_pair, erased_pattern, erased_row}
 use Rattle.gh_kernel.proofs.Shapes.{push_mapped, row_at}
 use Rattle.gh_kernel.proofs.erasing.+erase.Goals as goal
 
@@ -30,3 +30,21 @@ erase_bodies-loop-guard-preserved g t c =
       | erase_bodies-in-Some+in_ok-erase_term-in-Some w ↦ item c.match-guard.guard (w.guard-is ∙ (λ i. Some (w.in_ok-erase_term-in-Some.ensures i)) ∙ sym (ap (option_map erased) w.in-Some.is)) c.in_ok-push.ensures.ok
       | erase_bodies-in-None w ↦ item c.match-guard.guard (w.guard-is ∙ sym (ap (option_map erased) w.in-None.is)) c.in_ok-push.ensures.ok
     ]
+
+pub erase_rows-loop-row-preserved : goal.erase_rows-loop-row-preserved
+erase_rows-loop-row-preserved g t c =
+    push_mapped erased_row c.args.rows.now c.loop-row.row-index c.loop-row.made c.push.new.self c.row-item.result c.in_ok-erase_row.field-0
+    (omega arith) c.row-item.is c.in_ok-erase_row.ensures c.loop-row.invariant c.in_ok-push.ensures.ok
+
+pub erase_pairs-loop-function-preserved : goal.erase_pairs-loop-function-preserved
+erase_pairs-loop-function-preserved g t c =
+    let pair = c.loop-function-item.result in
+    push_mapped erased_pair c.args.pairs.now c.loop-function.function-index c.loop-function.made c.push.new.self pair (pair.0, pair.1, c.in_ok-erase_term.field-0)
+    (omega arith) c.loop-function-item.is (λ i. (pair.0, pair.1, c.in_ok-erase_term.ensures i)) c.loop-function.invariant c.in_ok-push.ensures.ok
+
+pub erase_groups-loop-binding-preserved : goal.erase_groups-loop-binding-preserved
+erase_groups-loop-binding-preserved g t c = (
+  c.loop-binding.invariant.0,
+  push_mapped erased_binding c.as_slice-binding-items.result.now c.loop-binding.binding-index c.loop-binding.members c.push.new.self c.binding-item.result c.in_ok-erase_binding.field-0
+      (omega arith) c.binding-item.is c.in_ok-erase_binding.ensures c.loop-binding.invariant.1 c.in_ok-push.ensures.ok,
+)
