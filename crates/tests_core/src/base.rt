@@ -1,24 +1,29 @@
 // One call of each public function, with ample memory.
 use gh_base::fixed::{FIXED, MAIN, WHERE};
-use gh_base::{Bytes, ListOf, NameId, Names, Origin, Refusal, Space, Span, TyCon};
+use gh_base::{Bytes, ListOf, NameId, Names, NoMemory, Origin, Refusal, Space, Span, TyCon};
+use std::process::Abort;
 use std::test::Fail;
 
-#[test]
-fn a_list_keeps_its_items_in_order(rt: HostRuntime) -> Result<(), Fail> {
-    let mut list: ListOf<u32> = ListOf::new(rt.alloc());
+// A new list grows at its end.
+fn check_growth(rt: &impl Abort, list: &mut ListOf<u32>) -> Result<(), NoMemory> {
     assert_eq!(rt; list.as_slice().len(), 0);
     list.push(7)?;
     list.push(9)?;
     list.extend_from_slice(&[1, 2])?;
     assert_eq!(rt; list.as_slice(), [7, 9, 1, 2].as_slice());
+    Ok(())
+}
+
+#[test]
+fn a_list_keeps_its_items_in_order(rt: HostRuntime) -> Result<(), Fail> {
+    check_growth(&rt, &mut ListOf::new(rt.alloc()))?;
     let copy: Bytes = ListOf::from_slice(rt.alloc(), b"abc")?;
     assert_eq!(rt; copy.as_slice(), b"abc".as_slice());
     Ok(())
 }
 
-#[test]
-fn one_text_has_one_number(rt: HostRuntime) -> Result<(), Fail> {
-    let mut names = Names::new(rt.alloc())?;
+// A new table knows the fixed texts, and gives each new text the next number.
+fn check_numbers(rt: &impl Abort, names: &mut Names) -> Result<(), NoMemory> {
     assert_eq!(rt; names.intern(b"where")?, WHERE);
     assert_eq!(rt; names.intern(b"main")?, MAIN);
     let tree = names.intern(b"tree")?;
@@ -26,6 +31,13 @@ fn one_text_has_one_number(rt: HostRuntime) -> Result<(), Fail> {
     let leaf = names.intern(b"leaf")?;
     assert_eq!(rt; names.intern(b"tree")?, tree);
     assert!(rt; leaf != tree);
+    Ok(())
+}
+
+#[test]
+fn one_text_has_one_number(rt: HostRuntime) -> Result<(), Fail> {
+    let mut names = Names::new(rt.alloc())?;
+    check_numbers(&rt, &mut names)?;
     Ok(())
 }
 

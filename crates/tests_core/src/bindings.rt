@@ -2,7 +2,8 @@
 use gh_base::fixed::{APPEND, MAIN, MAIN_MODULE, PRELUDE};
 use gh_base::{ListOf, NameId, NoMemory, Origin, Space, Span, TyCon};
 use gh_bindings::{Binding, Operand, core_of};
-use gh_core::{CoreName, CoreTerm, CoreType};
+use gh_core::{CoreName, CoreProgram, CoreTerm, CoreType};
+use sqlite_items::Boxed;
 use std::alloc::Global;
 use std::process::Abort;
 use std::test::Fail;
@@ -74,10 +75,15 @@ fn is_begun(term: &CoreTerm) -> bool {
     }
 }
 
-#[test]
-fn joins_operands(rt: HostRuntime) -> Result<(), Fail> {
-    let alloc = rt.alloc();
-    let core = core_of(alloc, &[binding(alloc)?])?;
+fn core(alloc: Global) -> Result<Boxed<CoreProgram>, NoMemory> {
+    let mut bindings = ListOf::new(alloc);
+    bindings.push(binding(alloc)?)?;
+    let core = core_of(alloc, bindings.as_slice())?;
+    Ok(Boxed::new(alloc, core)?)
+}
+
+// The program of core with the definition of `++` and that of `main`.
+fn check_core(rt: &impl Abort, core: &CoreProgram) {
     assert!(rt; core.decls.as_slice().len() == 1);
     assert!(rt; is_global(&core.main, value(MAIN_MODULE, MAIN)));
     let defs = core.defs.as_slice();
@@ -85,5 +91,11 @@ fn joins_operands(rt: HostRuntime) -> Result<(), Fail> {
     assert!(rt; defs[0].name == value(PRELUDE, APPEND));
     assert!(rt; defs[1].name == value(MAIN_MODULE, MAIN));
     assert!(rt; is_joined(&defs[1].term));
+}
+
+#[test]
+fn joins_operands(rt: HostRuntime) -> Result<(), Fail> {
+    let core = core(rt.alloc())?;
+    check_core(&rt, core.get());
     Ok(())
 }

@@ -1,8 +1,8 @@
 // Small cases, worked out by hand.
 use gh_base::{ListOf, NameId, NoMemory, Origin, Space, Span, TyCon};
 use gh_core::{
-    CoreAlt, CoreName, CoreProgram, CoreTerm, CoreType, Def, ErasedAlt, ErasedTerm, erase_core,
-    same_type,
+    CoreAlt, CoreName, CoreProgram, CoreTerm, CoreType, Def, Erased, ErasedAlt, ErasedTerm,
+    erase_core, same_type,
 };
 use gh_typeterm::{DeclCon, DeclData, Kind};
 use sqlite_items::Boxed;
@@ -10,28 +10,46 @@ use std::alloc::Global;
 use std::process::Abort;
 use std::test::Fail;
 
-// `forall a. forall b. a (b -> a)`, with these numbers for `a` and `b`
-fn quantified(alloc: Global, a: u32, b: u32, last: u32) -> Result<CoreType, NoMemory> {
+// A type applied to a variable.
+fn applied(
+    alloc: Global,
+    function: Boxed<CoreType>,
+    argument: u32,
+) -> Result<Boxed<CoreType>, NoMemory> {
+    let argument = Boxed::new(alloc, CoreType::Var(argument))?;
+    Ok(Boxed::new(alloc, CoreType::App(function, argument))?)
+}
+
+// `forall a. forall b. b -> c`, with these numbers for `a`, `b` and `c`
+fn quantified(alloc: Global, numbers: (u32, u32, u32)) -> Result<Boxed<CoreType>, NoMemory> {
+    let (a, b, last) = numbers;
     let arrow = Boxed::new(alloc, CoreType::Con(TyCon::Arrow))?;
-    let from = CoreType::App(arrow, Boxed::new(alloc, CoreType::Var(b))?);
-    let function = CoreType::App(
-        Boxed::new(alloc, from)?,
-        Boxed::new(alloc, CoreType::Var(last))?,
-    );
-    let inner = CoreType::Forall(b, Kind::Star, Boxed::new(alloc, function)?);
-    Ok(CoreType::Forall(a, Kind::Star, Boxed::new(alloc, inner)?))
+    let from = applied(alloc, arrow, b)?;
+    let function = applied(alloc, from, last)?;
+    let inner = Boxed::new(alloc, CoreType::Forall(b, Kind::Star, function))?;
+    Ok(Boxed::new(alloc, CoreType::Forall(a, Kind::Star, inner))?)
+}
+
+// Whether two such types are the same.
+fn same_quantified(
+    alloc: Global,
+    left: (u32, u32, u32),
+    right: (u32, u32, u32),
+) -> Result<bool, NoMemory> {
+    let left = quantified(alloc, left)?;
+    let right = quantified(alloc, right)?;
+    Ok(same_type(left.get(), right.get()))
 }
 
 #[test]
 fn compares_types(rt: HostRuntime) -> Result<(), Fail> {
     let alloc = rt.alloc();
-    let first = quantified(alloc, 0, 1, 0)?;
-    assert!(rt; same_type(&first, &quantified(alloc, 7, 3, 7)?));
-    assert!(rt; same_type(&first, &quantified(alloc, 1, 0, 1)?));
-    assert!(rt; !same_type(&first, &quantified(alloc, 0, 1, 1)?));
-    assert!(rt; !same_type(&first, &quantified(alloc, 0, 0, 0)?));
-    assert!(rt; !same_type(&first, &quantified(alloc, 0, 1, 2)?));
-    assert!(rt; same_type(&quantified(alloc, 4, 1, 2)?, &quantified(alloc, 5, 6, 2)?));
+    assert!(rt; same_quantified(alloc, (0, 1, 0), (7, 3, 7))?);
+    assert!(rt; same_quantified(alloc, (0, 1, 0), (1, 0, 1))?);
+    assert!(rt; !same_quantified(alloc, (0, 1, 0), (0, 1, 1))?);
+    assert!(rt; !same_quantified(alloc, (0, 1, 0), (0, 0, 0))?);
+    assert!(rt; !same_quantified(alloc, (0, 1, 0), (0, 1, 2))?);
+    assert!(rt; same_quantified(alloc, (4, 1, 2), (5, 6, 2))?);
     Ok(())
 }
 
@@ -66,20 +84,24 @@ fn declared(alloc: Global, name: u32, is_newtype: bool) -> Result<DeclData, NoMe
     })
 }
 
-// `\t -> \(x : t) -> letrec y : Int = 5 in case x of { C z -> z; else stop }`, applied to a type
-fn function(alloc: Global, place: Span) -> Result<CoreTerm, NoMemory> {
+// `case x of { C z -> z; else stop }`
+fn case(alloc: Global, place: Span) -> Result<Boxed<CoreTerm>, NoMemory> {
     let mut names = ListOf::new(alloc);
     names.push(3)?;
     let mut alternatives = ListOf::new(alloc);
     alternatives.push(CoreAlt::Con(value(1), names, CoreTerm::Var(3)))?;
     let scrutinee = Boxed::new(alloc, CoreTerm::Var(1))?;
-    let stop = CoreTerm::Stop(place, CoreType::Con(TyCon::Int));
-    let otherwise = Some(Boxed::new(alloc, stop)?);
+    let stop = Boxed::new(alloc, CoreTerm::Stop(place, CoreType::Con(TyCon::Int)))?;
     let int = CoreType::Con(TyCon::Int);
-    let case = Boxed::new(
+    Ok(Boxed::new(
         alloc,
-        CoreTerm::Case(scrutinee, int, alternatives, otherwise),
-    )?;
+        CoreTerm::Case(scrutinee, int, alternatives, Some(stop)),
+    )?)
+}
+
+// `\t -> \(x : t) -> letrec y : Int = 5 in case x of { C z -> z; else stop }`, applied to a type
+fn function(alloc: Global, place: Span) -> Result<CoreTerm, NoMemory> {
+    let case = case(alloc, place)?;
     let mut bindings = ListOf::new(alloc);
     bindings.push((2, CoreType::Con(TyCon::Int), CoreTerm::Int(5)))?;
     let bound = Boxed::new(alloc, CoreTerm::LetRec(bindings, case))?;
@@ -88,18 +110,19 @@ fn function(alloc: Global, place: Span) -> Result<CoreTerm, NoMemory> {
     Ok(CoreTerm::TyApp(outer, CoreType::Con(TyCon::Char)))
 }
 
-fn program(alloc: Global, place: Span) -> Result<CoreProgram, NoMemory> {
+fn program(alloc: Global, place: Span) -> Result<Boxed<CoreProgram>, NoMemory> {
     let mut decls = ListOf::new(alloc);
     decls.push(declared(alloc, 1, false)?)?;
     decls.push(declared(alloc, 2, true)?)?;
+    let term = function(alloc, place)?;
     let mut defs = ListOf::new(alloc);
     defs.push(Def {
         name: CoreName::Plain(value(9)),
         ty: CoreType::Con(TyCon::Int),
-        term: function(alloc, place)?,
+        term,
     })?;
     let main = CoreTerm::Global(CoreName::Plain(value(9)));
-    Ok(CoreProgram { decls, defs, main })
+    Ok(Boxed::new(alloc, CoreProgram { decls, defs, main })?)
 }
 
 #[test]
@@ -110,14 +133,25 @@ fn erases(rt: HostRuntime) -> Result<(), Fail> {
         from: 2,
         to: 3,
     };
-    let erased = erase_core(alloc, &program(alloc, place)?)?;
+    let erased = erased(alloc, place)?;
+    check_erased(&rt, erased.get(), place);
+    Ok(())
+}
+
+fn erased(alloc: Global, place: Span) -> Result<Boxed<Erased>, NoMemory> {
+    let program = program(alloc, place)?;
+    let erased = erase_core(alloc, program.get())?;
+    Ok(Boxed::new(alloc, erased)?)
+}
+
+// What is left of the program.
+fn check_erased(rt: &impl Abort, erased: &Erased, place: Span) {
     assert!(rt; erased.newtypes.as_slice() == [value(2)].as_slice());
     assert!(rt; is_global(&erased.main));
     assert!(rt; erased.defs.as_slice().len() == 1);
     let (name, term) = &erased.defs.as_slice()[0];
     assert!(rt; *name == CoreName::Plain(value(9)));
     assert!(rt; is_function(term, place));
-    Ok(())
 }
 
 fn is_global(term: &ErasedTerm) -> bool {

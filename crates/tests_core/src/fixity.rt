@@ -309,20 +309,30 @@ const NINE: [Fixity; 9] = [
     },
 ];
 
+// The operators of a number to the base 9: as many of its digits, the last one first.
+fn operators(alloc: Global, code: u32, count: u32) -> Result<Vec<Fixity>, NoMemory> {
+    let mut fixities = Vec::new(alloc);
+    let mut rest = code;
+    for _ in 0..count {
+        fixities.push(NINE[rest as usize % 9])?;
+        rest /= 9;
+    }
+    Ok(fixities)
+}
+
+fn is_arranged(alloc: Global, fixities: &[Fixity]) -> Result<bool, NoMemory> {
+    let items = list_of(alloc, fixities)?;
+    Ok(arrange(alloc, &items).is_ok())
+}
+
 // Every list of up to five operators over three levels and three sides.
 #[test]
 fn agrees_with_a_search_over_all_trees(rt: HostRuntime) -> Result<(), Fail> {
     let mut seen: u64 = 0;
     for count in 0..6u32 {
         for code in 0..9u32.wrapping_pow(count) {
-            let mut fixities = Vec::new(rt.alloc());
-            let mut rest = code;
-            for _ in 0..count {
-                fixities.push(NINE[rest as usize % 9])?;
-                rest /= 9;
-            }
-            let items = list_of(rt.alloc(), fixities.as_slice())?;
-            let found = arrange(rt.alloc(), &items).is_ok();
+            let fixities = operators(rt.alloc(), code, count)?;
+            let found = is_arranged(rt.alloc(), fixities.as_slice())?;
             assert_eq!(rt; found, has_tree(fixities.as_slice(), None));
             seen = seen.wrapping_add(1);
         }

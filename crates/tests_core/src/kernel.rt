@@ -33,7 +33,7 @@ fn variable(name: u32) -> Term<u32> {
 }
 
 // `let x = y in case x of { C z@_ | x -> z; .. }`, each node with a number for its note
-fn noted(alloc: Global) -> Result<Term<u32>, NoMemory> {
+fn noted(alloc: Global) -> Result<Boxed<Term<u32>>, NoMemory> {
     let mut members = ListOf::new(alloc);
     members.push(LocalBinding {
         name: 1,
@@ -44,10 +44,8 @@ fn noted(alloc: Global) -> Result<Term<u32>, NoMemory> {
     let mut groups = ListOf::new(alloc);
     groups.push(members)?;
     let body = Boxed::new(alloc, noted_case(alloc)?)?;
-    Ok(Term {
-        node: TermNode::Let(groups, body),
-        note: 9,
-    })
+    let node = TermNode::Let(groups, body);
+    Ok(Boxed::new(alloc, Term { node, note: 9 })?)
 }
 
 fn noted_case(alloc: Global) -> Result<Term<u32>, NoMemory> {
@@ -88,11 +86,17 @@ fn noted_pattern(alloc: Global) -> Result<Pattern<u32>, NoMemory> {
     })
 }
 
+// The term without its notes.
+fn erased(alloc: Global, term: Boxed<Term<u32>>) -> Result<Boxed<Term<()>>, NoMemory> {
+    let made = erase(alloc, term.get())?;
+    Ok(Boxed::new(alloc, made)?)
+}
+
 #[test]
 fn erases_a_let(rt: HostRuntime) -> Result<(), Fail> {
     let alloc = rt.alloc();
-    let made = erase(alloc, &noted(alloc)?)?;
-    assert!(rt; is_let(&made));
+    let made = erased(alloc, noted(alloc)?)?;
+    assert!(rt; is_let(made.get()));
     Ok(())
 }
 
@@ -161,64 +165,70 @@ fn is_variable(term: &Term<()>, name: u32) -> bool {
 }
 
 // `let { f{|e|} = \x -> 'a' } in f{|Int|} "b" :: Int`
-fn redefined(alloc: Global) -> Result<Term<u32>, NoMemory> {
-    let char = Term {
-        node: TermNode::Lit(Lit::Char('a')),
-        note: 1,
-    };
-    let right = Term {
-        node: TermNode::Lam(5, Boxed::new(alloc, char)?),
-        note: 2,
-    };
+fn redefined(alloc: Global) -> Result<Boxed<Term<u32>>, NoMemory> {
+    let body = annotated(alloc)?;
     let mut pairs = ListOf::new(alloc);
-    pairs.push((value(6), place(), right))?;
-    let body = Boxed::new(alloc, annotated(alloc)?)?;
+    pairs.push((value(6), place(), right_side(alloc)?))?;
+    let node = TermNode::Redef(0, NameId(9), pairs, body);
+    Ok(Boxed::new(alloc, Term { node, note: 3 })?)
+}
+
+// `\x -> 'a'`
+fn right_side(alloc: Global) -> Result<Term<u32>, NoMemory> {
+    let node = TermNode::Lit(Lit::Char('a'));
+    let char = Boxed::new(alloc, Term { node, note: 1 })?;
     Ok(Term {
-        node: TermNode::Redef(0, NameId(9), pairs, body),
-        note: 3,
+        node: TermNode::Lam(5, char),
+        note: 2,
     })
 }
 
-fn annotated(alloc: Global) -> Result<Term<u32>, NoMemory> {
-    let call = Term {
-        node: TermNode::Call(value(6), Ty::con(alloc, TyCon::Int)?),
-        note: 4,
-    };
-    let text = Term {
-        node: TermNode::Lit(Lit::Str(ListOf::from_slice(alloc, &['b'])?)),
-        note: 5,
-    };
-    let applied = Term {
-        node: TermNode::App(Boxed::new(alloc, call)?, Boxed::new(alloc, text)?),
-        note: 6,
-    };
+fn annotated(alloc: Global) -> Result<Boxed<Term<u32>>, NoMemory> {
+    let applied = applied(alloc)?;
     let signed = Signed {
         ty: Ty::con(alloc, TyCon::Int)?,
         kinds: ListOf::new(alloc),
     };
-    Ok(Term {
-        node: TermNode::Ann(Boxed::new(alloc, applied)?, signed),
-        note: 7,
-    })
+    let node = TermNode::Ann(applied, signed);
+    Ok(Boxed::new(alloc, Term { node, note: 7 })?)
+}
+
+// `f{|Int|} "b"`
+fn applied(alloc: Global) -> Result<Boxed<Term<u32>>, NoMemory> {
+    let node = TermNode::Call(value(6), Ty::con(alloc, TyCon::Int)?);
+    let call = Boxed::new(alloc, Term { node, note: 4 })?;
+    let node = TermNode::Lit(Lit::Str(ListOf::from_slice(alloc, &['b'])?));
+    let text = Boxed::new(alloc, Term { node, note: 5 })?;
+    let node = TermNode::App(call, text);
+    Ok(Boxed::new(alloc, Term { node, note: 6 })?)
 }
 
 #[test]
 fn erases_a_redefinition(rt: HostRuntime) -> Result<(), Fail> {
     let alloc = rt.alloc();
-    let made = erase(alloc, &redefined(alloc)?)?;
-    let TermNode::Redef(number, name, pairs, body) = &made.node else {
-        return wrong(&rt);
+    let int = Ty::con(alloc, TyCon::Int)?;
+    let made = erased(alloc, redefined(alloc)?)?;
+    check_redefinition(&rt, made.get(), &int)
+}
+
+fn check_redefinition(rt: &impl Abort, term: &Term<()>, int: &Ty) -> Result<(), Fail> {
+    let TermNode::Redef(number, name, pairs, body) = &term.node else {
+        return wrong(rt);
     };
     assert_eq!(rt; *number, 0);
     assert_eq!(rt; *name, NameId(9));
-    let [(function, span, right)] = pairs.as_slice() else {
-        return wrong(&rt);
+    check_pairs(rt, pairs.as_slice())?;
+    assert!(rt; is_annotated(body.get(), int));
+    Ok(())
+}
+
+fn check_pairs(rt: &impl Abort, pairs: &[(Origin, Span, Term<()>)]) -> Result<(), Fail> {
+    let [(function, span, right)] = pairs else {
+        return wrong(rt);
     };
     assert_eq!(rt; *function, value(6));
     assert_eq!(rt; *span, place());
     assert!(rt; matches!(right.node, TermNode::Lam(5, _)));
-    let int = Ty::con(alloc, TyCon::Int)?;
-    assert!(rt; is_annotated(body.get(), &int));
     Ok(())
 }
 

@@ -4,6 +4,7 @@ use gh_base::{ListOf, NameId, NoMemory, Origin, Space, TyCon};
 use gh_struct_rep::{paths, rep};
 use gh_typeterm::{DeclCon, DeclData, Kind, Ty, same};
 use std::alloc::Global;
+use std::process::Abort;
 use std::test::Fail;
 
 fn named(space: Space, name: u32) -> Origin {
@@ -66,14 +67,24 @@ fn tree_data(alloc: Global) -> Result<DeclData, NoMemory> {
 #[test]
 fn represents_trees(rt: HostRuntime) -> Result<(), Fail> {
     let alloc = rt.alloc();
+    let made = represented(&rt, alloc)?;
+    let leaf = layer(alloc, 902, prelude(alloc, UNIT)?)?;
+    let wanted = two(alloc, SUM, leaf, node_layer(alloc)?)?;
+    assert!(rt; same(&made, &wanted));
+    Ok(())
+}
+
+fn represented(rt: &impl Abort, alloc: Global) -> Result<Ty, NoMemory> {
     let decl = tree_data(alloc)?;
     assert!(rt; !decl.constructors.as_slice().is_empty());
-    let made = rep(alloc, &decl)?;
+    rep(alloc, &decl)
+}
+
+// The layer of `Node`.
+fn node_layer(alloc: Global) -> Result<Ty, NoMemory> {
     let inner = two(alloc, PROD, Ty::var(alloc, 0)?, tree(alloc)?)?;
-    let node = layer(alloc, 903, two(alloc, PROD, tree(alloc)?, inner)?)?;
-    let leaf = layer(alloc, 902, prelude(alloc, UNIT)?)?;
-    assert!(rt; same(&made, &two(alloc, SUM, leaf, node)?));
-    Ok(())
+    let fields = two(alloc, PROD, tree(alloc)?, inner)?;
+    layer(alloc, 903, fields)
 }
 
 #[test]

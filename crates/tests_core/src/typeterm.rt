@@ -43,17 +43,21 @@ fn compares_terms(rt: HostRuntime) -> Result<(), Fail> {
     Ok(())
 }
 
-#[test]
-fn replaces_variables(rt: HostRuntime) -> Result<(), Fail> {
-    let alloc = rt.alloc();
+fn replaced(alloc: Global) -> Result<Ty, NoMemory> {
     let mut by = ListOf::new(alloc);
     by.push((1, Ty::var(alloc, 0)?))?;
     by.push((0, Ty::con(alloc, TyCon::Int)?))?;
     by.push((1, Ty::con(alloc, TyCon::Char)?))?;
-    let made = substitute(alloc, &two_arrows(alloc)?, &by)?;
+    let term = two_arrows(alloc)?;
+    substitute(alloc, &term, &by)
+}
+
+#[test]
+fn replaces_variables(rt: HostRuntime) -> Result<(), Fail> {
+    let alloc = rt.alloc();
     let inner = arrow(alloc, Ty::var(alloc, 0)?, Ty::name(alloc, 0)?)?;
     let wanted = arrow(alloc, Ty::con(alloc, TyCon::Int)?, inner)?;
-    assert!(rt; same(&made, &wanted));
+    assert!(rt; same(&replaced(alloc)?, &wanted));
     Ok(())
 }
 
@@ -116,10 +120,8 @@ fn origin(space: Space, name: u32) -> Origin {
     }
 }
 
-#[test]
-fn copies_a_declaration(rt: HostRuntime) -> Result<(), Fail> {
-    let alloc = rt.alloc();
-    let field = two_arrows(alloc)?;
+// A newtype whose constructor has this field
+fn declaration(alloc: Global, field: &Ty) -> Result<DeclData, NoMemory> {
     let mut fields = ListOf::new(alloc);
     fields.push(field.share()?)?;
     let mut params = ListOf::new(alloc);
@@ -129,24 +131,34 @@ fn copies_a_declaration(rt: HostRuntime) -> Result<(), Fail> {
         origin: origin(Space::Values, 902),
         fields: share_terms(alloc, fields.as_slice())?,
     })?;
-    let decl = DeclData {
+    Ok(DeclData {
         origin: origin(Space::Types, 901),
         is_newtype: true,
         params,
         constructors,
-    };
-    let copy = copy_decl(alloc, &decl)?;
+    })
+}
+
+#[test]
+fn copies_a_declaration(rt: HostRuntime) -> Result<(), Fail> {
+    let alloc = rt.alloc();
+    let field = two_arrows(alloc)?;
+    let copy = copy_decl(alloc, &declaration(alloc, &field)?)?;
+    check_copy(&rt, &copy, &field)
+}
+
+fn check_copy(rt: &impl Abort, copy: &DeclData, field: &Ty) -> Result<(), Fail> {
     assert_eq!(rt; copy.origin, origin(Space::Types, 901));
     assert!(rt; copy.is_newtype);
     assert_eq!(rt; copy.params.as_slice().len(), 1);
     let [con] = copy.constructors.as_slice() else {
-        return wrong(&rt);
+        return wrong(rt);
     };
     assert_eq!(rt; con.origin, origin(Space::Values, 902));
     let [only] = con.fields.as_slice() else {
-        return wrong(&rt);
+        return wrong(rt);
     };
-    assert!(rt; same(only, &field));
+    assert!(rt; same(only, field));
     Ok(())
 }
 

@@ -63,6 +63,11 @@ impl Trial {
         self.unifier.unify(a, b)
     }
 
+    /// Whether an equation has a solution.
+    pub fn accepts(&mut self, rt: &impl Abort, a: &Ty, b: &Ty) -> bool {
+        self.unify(rt, a, b).is_ok()
+    }
+
     pub fn read(&self, rt: &impl Abort, a: &Ty) -> Result<Ty, NoMemory> {
         assert!(rt; is_below(a, self.count));
         self.unifier.read(a)
