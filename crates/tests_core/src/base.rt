@@ -6,11 +6,11 @@ use std::test::Fail;
 
 // A new list grows at its end.
 fn check_growth(rt: &impl Abort, list: &mut ListOf<u32>) -> Result<(), NoMemory> {
-    assert_eq!(rt; list.as_slice().len(), 0);
+    assert!(rt; list.as_slice().is_empty());
     list.push(7)?;
     list.push(9)?;
     list.extend_from_slice(&[1, 2])?;
-    assert_eq!(rt; list.as_slice(), [7, 9, 1, 2].as_slice());
+    assert!(rt; list.as_slice() == [7, 9, 1, 2].as_slice());
     Ok(())
 }
 
@@ -22,15 +22,20 @@ fn a_list_keeps_its_items_in_order(rt: HostRuntime) -> Result<(), Fail> {
     Ok(())
 }
 
+// Whether a text has this number.
+fn has_number(names: &mut Names, text: &[u8], wanted: NameId) -> Result<bool, NoMemory> {
+    let number = names.intern(text)?;
+    Ok(number == wanted)
+}
+
 // A new table knows the fixed texts, and gives each new text the next number.
 fn check_numbers(rt: &impl Abort, names: &mut Names) -> Result<(), NoMemory> {
-    assert_eq!(rt; names.intern(b"where")?, WHERE);
-    assert_eq!(rt; names.intern(b"main")?, MAIN);
-    let tree = names.intern(b"tree")?;
-    assert_eq!(rt; tree, NameId(FIXED.len() as u32));
-    let leaf = names.intern(b"leaf")?;
-    assert_eq!(rt; names.intern(b"tree")?, tree);
-    assert!(rt; leaf != tree);
+    assert!(rt; has_number(names, b"where", WHERE)?);
+    assert!(rt; has_number(names, b"main", MAIN)?);
+    let tree = NameId(FIXED.len() as u32);
+    assert!(rt; has_number(names, b"tree", tree)?);
+    assert!(rt; !has_number(names, b"leaf", tree)?);
+    assert!(rt; has_number(names, b"tree", tree)?);
     Ok(())
 }
 
@@ -49,6 +54,11 @@ fn a_number_gives_its_text(rt: HostRuntime) -> Result<(), Fail> {
     Ok(())
 }
 
+// The number and the place of a refusal.
+fn seen(refusal: Refusal) -> (u32, Option<Span>) {
+    (refusal.number(), refusal.span())
+}
+
 #[test]
 fn refusals_have_their_numbers_and_places(rt: HostRuntime) -> Result<(), Fail> {
     let span = Span {
@@ -57,10 +67,8 @@ fn refusals_have_their_numbers_and_places(rt: HostRuntime) -> Result<(), Fail> {
         to: 9,
     };
     let unknown = Refusal::UnknownName { span, name: MAIN };
-    assert_eq!(rt; unknown.number(), 16);
-    assert_eq!(rt; unknown.span(), Some(span));
-    assert_eq!(rt; Refusal::NoMain.number(), 38);
-    assert_eq!(rt; Refusal::NoMain.span(), None);
+    assert_eq!(rt; seen(unknown), (16, Some(span)));
+    assert_eq!(rt; seen(Refusal::NoMain), (38, None));
     let origin = Origin {
         module: MAIN,
         space: Space::Types,
@@ -68,6 +76,6 @@ fn refusals_have_their_numbers_and_places(rt: HostRuntime) -> Result<(), Fail> {
     };
     let mut chain = ListOf::new(rt.alloc());
     chain.push((origin, TyCon::ConOf(origin)))?;
-    assert_eq!(rt; Refusal::NoCase { span, chain }.number(), 34);
+    assert_eq!(rt; seen(Refusal::NoCase { span, chain }), (34, Some(span)));
     Ok(())
 }

@@ -85,13 +85,20 @@ fn is_pair_of_leaves(tree: &Arranged, left: u32, place: u32, right: u32) -> bool
     }
 }
 
+// The tree of a list that has one.
+fn tree_of(alloc: Global, items: &[Item]) -> Result<Arranged, Fail>
+    requires { IsTrue (is_list items.now) }
+{
+    let items = ListOf::from_slice(alloc, items)?;
+    Ok(arrange(alloc, &items)?)
+}
+
 #[test]
 fn left_twice(rt: HostRuntime) -> Result<(), Fail> {
-    let items = ListOf::from_slice(
+    let tree = tree_of(
         rt.alloc(),
         &[Item::Leaf(0), LEFT4, Item::Leaf(1), LEFT4, Item::Leaf(2)],
     )?;
-    let tree = arrange(rt.alloc(), &items)?;
     match &tree {
         Arranged::Pair(at, left, right) => {
             assert_eq!(rt; *at, 3);
@@ -105,11 +112,10 @@ fn left_twice(rt: HostRuntime) -> Result<(), Fail> {
 
 #[test]
 fn right_twice(rt: HostRuntime) -> Result<(), Fail> {
-    let items = ListOf::from_slice(
+    let tree = tree_of(
         rt.alloc(),
         &[Item::Leaf(7), RIGHT4, Item::Leaf(8), RIGHT4, Item::Leaf(9)],
     )?;
-    let tree = arrange(rt.alloc(), &items)?;
     match &tree {
         Arranged::Pair(at, left, right) => {
             assert_eq!(rt; *at, 1);
@@ -123,11 +129,10 @@ fn right_twice(rt: HostRuntime) -> Result<(), Fail> {
 
 #[test]
 fn minus_over_a_product(rt: HostRuntime) -> Result<(), Fail> {
-    let items = ListOf::from_slice(
+    let tree = tree_of(
         rt.alloc(),
         &[Item::Minus(AT), Item::Leaf(0), LEFT7, Item::Leaf(1)],
     )?;
-    let tree = arrange(rt.alloc(), &items)?;
     match &tree {
         Arranged::Minus(operand) => assert!(rt; is_pair_of_leaves(operand.get(), 1, 2, 3)),
         _ => assert!(rt; false),
@@ -137,11 +142,10 @@ fn minus_over_a_product(rt: HostRuntime) -> Result<(), Fail> {
 
 #[test]
 fn minus_as_left_operand(rt: HostRuntime) -> Result<(), Fail> {
-    let items = ListOf::from_slice(
+    let tree = tree_of(
         rt.alloc(),
         &[Item::Minus(AT), Item::Leaf(0), LEFT6, Item::Leaf(1)],
     )?;
-    let tree = arrange(rt.alloc(), &items)?;
     match &tree {
         Arranged::Pair(at, left, right) => {
             assert_eq!(rt; *at, 2);
@@ -155,11 +159,10 @@ fn minus_as_left_operand(rt: HostRuntime) -> Result<(), Fail> {
 
 #[test]
 fn minus_as_right_operand(rt: HostRuntime) -> Result<(), Fail> {
-    let items = ListOf::from_slice(
+    let tree = tree_of(
         rt.alloc(),
         &[Item::Leaf(0), NONE4, Item::Minus(AT), Item::Leaf(1)],
     )?;
-    let tree = arrange(rt.alloc(), &items)?;
     match &tree {
         Arranged::Pair(at, left, right) => {
             assert_eq!(rt; *at, 1);

@@ -14,14 +14,25 @@ fn shelf(alloc: Global, failing: &[u32]) -> Result<MemShelf, Fail> {
     Ok(MemShelf::new(alloc, files, ListOf::from_slice(alloc, failing)?))
 }
 
+// Whether a shelf gives these bytes as the first ones of a file.
+fn gives(shelf: &mut MemShelf, name: &Bytes, most: u64, wanted: &[u8]) -> bool {
+    match shelf.read_file(name, most) {
+        Ok(found) => found.as_slice() == wanted,
+        Err(_fault) => false,
+    }
+}
+
+// Whether a reading call fails.
+fn fails(shelf: &mut MemShelf, name: &Bytes, most: u64) -> bool {
+    matches!(shelf.read_file(name, most), Err(ShelfFault::Failed))
+}
+
 #[test]
 fn a_shelf_gives_the_first_bytes(rt: HostRuntime) -> Result<(), Fail> {
     let mut shelf = shelf(rt.alloc(), &[])?;
     let name = bytes(rt.alloc(), b"a.hs")?;
-    let front = shelf.read_file(&name, 4).ok().ok_or("front")?;
-    assert_eq!(rt; front.as_slice(), b"abcd".as_slice());
-    let whole = shelf.read_file(&name, 7).ok().ok_or("whole")?;
-    assert_eq!(rt; whole.as_slice(), b"abcdef".as_slice());
+    assert!(rt; gives(&mut shelf, &name, 4, b"abcd"));
+    assert!(rt; gives(&mut shelf, &name, 7, b"abcdef"));
     assert_eq!(rt; shelf.faults(b"a.hs"), 0);
     Ok(())
 }
@@ -30,7 +41,7 @@ fn a_shelf_gives_the_first_bytes(rt: HostRuntime) -> Result<(), Fail> {
 fn a_name_that_is_not_held_is_a_fault(rt: HostRuntime) -> Result<(), Fail> {
     let mut shelf = shelf(rt.alloc(), &[])?;
     let name = bytes(rt.alloc(), b"b.hs")?;
-    assert!(rt; matches!(shelf.read_file(&name, 4), Err(ShelfFault::Failed)));
+    assert!(rt; fails(&mut shelf, &name, 4));
     assert_eq!(rt; shelf.faults(b"b.hs"), 1);
     assert_eq!(rt; shelf.faults(b"a.hs"), 0);
     Ok(())
@@ -40,8 +51,8 @@ fn a_name_that_is_not_held_is_a_fault(rt: HostRuntime) -> Result<(), Fail> {
 fn a_listed_reading_call_fails(rt: HostRuntime) -> Result<(), Fail> {
     let mut shelf = shelf(rt.alloc(), &[1])?;
     let name = bytes(rt.alloc(), b"a.hs")?;
-    assert!(rt; shelf.read_file(&name, 9).is_ok());
-    assert!(rt; matches!(shelf.read_file(&name, 9), Err(ShelfFault::Failed)));
+    assert!(rt; gives(&mut shelf, &name, 9, b"abcdef"));
+    assert!(rt; fails(&mut shelf, &name, 9));
     assert_eq!(rt; shelf.faults(b"a.hs"), 1);
     Ok(())
 }

@@ -1,4 +1,6 @@
 // The worked cases.
+ghost use Rattle.std.specs.Prelude.{◌<◌};
+
 use gh_base::fixed::{PRELUDE, PROD, SUM, UNIT};
 use gh_base::{ListOf, NameId, NoMemory, Origin, Space, TyCon};
 use gh_struct_rep::{paths, rep};
@@ -87,12 +89,20 @@ fn node_layer(alloc: Global) -> Result<Ty, NoMemory> {
     layer(alloc, 903, fields)
 }
 
+// Whether this is the path to a constructor, of so many.
+fn has_path(alloc: Global, count: u32, at: u32, wanted: &[bool]) -> Result<bool, NoMemory>
+    requires { at < count }
+{
+    let found = paths(alloc, count, at)?;
+    Ok(found.as_slice() == wanted)
+}
+
 #[test]
 fn finds_paths(rt: HostRuntime) -> Result<(), Fail> {
     let alloc = rt.alloc();
-    assert_eq!(rt; paths(alloc, 3, 0)?.as_slice(), [false].as_slice());
-    assert_eq!(rt; paths(alloc, 3, 1)?.as_slice(), [true, false].as_slice());
-    assert_eq!(rt; paths(alloc, 3, 2)?.as_slice(), [true, true].as_slice());
-    assert_eq!(rt; paths(alloc, 1, 0)?.as_slice().len(), 0);
+    assert!(rt; has_path(alloc, 3, 0, &[false])?);
+    assert!(rt; has_path(alloc, 3, 1, &[true, false])?);
+    assert!(rt; has_path(alloc, 3, 2, &[true, true])?);
+    assert!(rt; has_path(alloc, 1, 0, &[])?);
     Ok(())
 }
