@@ -6,6 +6,8 @@ mod base;
 #[cfg(test)]
 mod bindings;
 #[cfg(test)]
+mod core_lint;
+#[cfg(test)]
 mod core_terms;
 #[cfg(test)]
 mod core_text;
