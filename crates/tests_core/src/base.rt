@@ -29,20 +29,21 @@ fn has_number(names: &mut Names, text: &[u8], wanted: NameId) -> Result<bool, No
 }
 
 // A new table knows the fixed texts, and gives each new text the next number.
-fn check_numbers(rt: &impl Abort, names: &mut Names) -> Result<(), NoMemory> {
-    assert!(rt; has_number(names, b"where", WHERE)?);
-    assert!(rt; has_number(names, b"main", MAIN)?);
+fn numbers_in_turn(names: &mut Names) -> Result<bool, NoMemory> {
     let tree = NameId(FIXED.len() as u32);
-    assert!(rt; has_number(names, b"tree", tree)?);
-    assert!(rt; !has_number(names, b"leaf", tree)?);
-    assert!(rt; has_number(names, b"tree", tree)?);
-    Ok(())
+    Ok(
+        has_number(names, b"where", WHERE)?
+            && has_number(names, b"main", MAIN)?
+            && has_number(names, b"tree", tree)?
+            && !has_number(names, b"leaf", tree)?
+            && has_number(names, b"tree", tree)?,
+    )
 }
 
 #[test]
 fn one_text_has_one_number(rt: HostRuntime) -> Result<(), Fail> {
     let mut names = Names::new(rt.alloc())?;
-    check_numbers(&rt, &mut names)?;
+    assert!(rt; numbers_in_turn(&mut names)?);
     Ok(())
 }
 

@@ -5,7 +5,6 @@ use gh_bindings::{Binding, Operand, core_of};
 use gh_core::{CoreName, CoreProgram, CoreTerm, CoreType};
 use sqlite_items::Boxed;
 use std::alloc::Global;
-use std::process::Abort;
 use std::test::Fail;
 
 const PLACE: Span = Span {
@@ -83,19 +82,19 @@ fn core(alloc: Global) -> Result<Boxed<CoreProgram>, NoMemory> {
 }
 
 // The program of core with the definition of `++` and that of `main`.
-fn check_core(rt: &impl Abort, core: &CoreProgram) {
-    assert!(rt; core.decls.as_slice().len() == 1);
-    assert!(rt; is_global(&core.main, value(MAIN_MODULE, MAIN)));
+fn is_core(core: &CoreProgram) -> bool {
     let defs = core.defs.as_slice();
-    assert!(rt; defs.len() == 2);
-    assert!(rt; defs[0].name == value(PRELUDE, APPEND));
-    assert!(rt; defs[1].name == value(MAIN_MODULE, MAIN));
-    assert!(rt; is_joined(&defs[1].term));
+    core.decls.as_slice().len() == 1
+        && is_global(&core.main, value(MAIN_MODULE, MAIN))
+        && defs.len() == 2
+        && defs[0].name == value(PRELUDE, APPEND)
+        && defs[1].name == value(MAIN_MODULE, MAIN)
+        && is_joined(&defs[1].term)
 }
 
 #[test]
 fn joins_operands(rt: HostRuntime) -> Result<(), Fail> {
     let core = core(rt.alloc())?;
-    check_core(&rt, core.get());
+    assert!(rt; is_core(core.get()));
     Ok(())
 }

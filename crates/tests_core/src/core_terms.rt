@@ -7,7 +7,6 @@ use gh_core::{
 use gh_typeterm::{DeclCon, DeclData, Kind};
 use sqlite_items::Boxed;
 use std::alloc::Global;
-use std::process::Abort;
 use std::test::Fail;
 
 // A type applied to a variable.
@@ -44,12 +43,21 @@ fn same_quantified(
 #[test]
 fn compares_types(rt: HostRuntime) -> Result<(), Fail> {
     let alloc = rt.alloc();
-    assert!(rt; same_quantified(alloc, (0, 1, 0), (7, 3, 7))?);
-    assert!(rt; same_quantified(alloc, (0, 1, 0), (1, 0, 1))?);
-    assert!(rt; !same_quantified(alloc, (0, 1, 0), (0, 1, 1))?);
-    assert!(rt; !same_quantified(alloc, (0, 1, 0), (0, 0, 0))?);
-    assert!(rt; !same_quantified(alloc, (0, 1, 0), (0, 1, 2))?);
-    assert!(rt; same_quantified(alloc, (4, 1, 2), (5, 6, 2))?);
+    let pairs = [
+        ((0, 1, 0), (7, 3, 7), true),
+        ((0, 1, 0), (1, 0, 1), true),
+        ((0, 1, 0), (0, 1, 1), false),
+        ((0, 1, 0), (0, 0, 0), false),
+        ((0, 1, 0), (0, 1, 2), false),
+        ((4, 1, 2), (5, 6, 2), true),
+    ];
+    for (left, right, are_same) in pairs {
+        assert_eq!(rt;
+            same_quantified(alloc, left, right)?,
+            are_same,
+            "{left:?} and {right:?}"
+        );
+    }
     Ok(())
 }
 
@@ -134,7 +142,7 @@ fn erases(rt: HostRuntime) -> Result<(), Fail> {
         to: 3,
     };
     let erased = erased(alloc, place)?;
-    check_erased(&rt, erased.get(), place);
+    assert!(rt; is_erased(erased.get(), place));
     Ok(())
 }
 
@@ -145,13 +153,13 @@ fn erased(alloc: Global, place: Span) -> Result<Boxed<Erased>, NoMemory> {
 }
 
 // What is left of the program.
-fn check_erased(rt: &impl Abort, erased: &Erased, place: Span) {
-    assert!(rt; erased.newtypes.as_slice() == [value(2)].as_slice());
-    assert!(rt; is_global(&erased.main));
-    assert!(rt; erased.defs.as_slice().len() == 1);
-    let (name, term) = &erased.defs.as_slice()[0];
-    assert!(rt; *name == CoreName::Plain(value(9)));
-    assert!(rt; is_function(term, place));
+fn is_erased(erased: &Erased, place: Span) -> bool {
+    let defs = erased.defs.as_slice();
+    erased.newtypes.as_slice() == [value(2)].as_slice()
+        && is_global(&erased.main)
+        && defs.len() == 1
+        && defs[0].0 == CoreName::Plain(value(9))
+        && is_function(&defs[0].1, place)
 }
 
 fn is_global(term: &ErasedTerm) -> bool {

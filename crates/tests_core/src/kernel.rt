@@ -6,7 +6,6 @@ use gh_kernel::{
 use gh_typeterm::{Ty, same};
 use sqlite_items::Boxed;
 use std::alloc::Global;
-use std::process::Abort;
 use std::test::Fail;
 
 fn value(name: u32) -> Origin {
@@ -208,28 +207,26 @@ fn erases_a_redefinition(rt: HostRuntime) -> Result<(), Fail> {
     let alloc = rt.alloc();
     let int = Ty::con(alloc, TyCon::Int)?;
     let made = erased(alloc, redefined(alloc)?)?;
-    check_redefinition(&rt, made.get(), &int)
-}
-
-fn check_redefinition(rt: &impl Abort, term: &Term<()>, int: &Ty) -> Result<(), Fail> {
-    let TermNode::Redef(number, name, pairs, body) = &term.node else {
-        return wrong(rt);
-    };
-    assert_eq!(rt; *number, 0);
-    assert_eq!(rt; *name, NameId(9));
-    check_pairs(rt, pairs.as_slice())?;
-    assert!(rt; is_annotated(body.get(), int));
+    assert!(rt; is_redefinition(made.get(), &int));
     Ok(())
 }
 
-fn check_pairs(rt: &impl Abort, pairs: &[(Origin, Span, Term<()>)]) -> Result<(), Fail> {
-    let [(function, span, right)] = pairs else {
-        return wrong(rt);
-    };
-    assert_eq!(rt; *function, value(6));
-    assert_eq!(rt; *span, place());
-    assert!(rt; matches!(right.node, TermNode::Lam(5, _)));
-    Ok(())
+fn is_redefinition(term: &Term<()>, int: &Ty) -> bool {
+    match &term.node {
+        TermNode::Redef(number, name, pairs, body) => {
+            let pairs = pairs.as_slice();
+            *number == 0
+                && *name == NameId(9)
+                && pairs.len() == 1
+                && is_pair(&pairs[0])
+                && is_annotated(body.get(), int)
+        }
+        _ => false,
+    }
+}
+
+fn is_pair(pair: &(Origin, Span, Term<()>)) -> bool {
+    pair.0 == value(6) && pair.1 == place() && matches!(pair.2.node, TermNode::Lam(5, _))
 }
 
 fn is_annotated(term: &Term<()>, ty: &Ty) -> bool {
@@ -249,9 +246,4 @@ fn is_applied(term: &Term<()>, ty: &Ty) -> bool {
         },
         _ => false,
     }
-}
-
-fn wrong(rt: &impl Abort) -> Result<(), Fail> {
-    assert!(rt; false, "another form of term");
-    Ok(())
 }

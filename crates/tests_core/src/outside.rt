@@ -31,52 +31,70 @@ fn fails(shelf: &mut MemShelf, name: &Bytes, most: u64) -> bool {
 fn a_shelf_gives_the_first_bytes(rt: HostRuntime) -> Result<(), Fail> {
     let mut shelf = shelf(rt.alloc(), &[])?;
     let name = bytes(rt.alloc(), b"a.hs")?;
-    assert!(rt; gives(&mut shelf, &name, 4, b"abcd"));
-    assert!(rt; gives(&mut shelf, &name, 7, b"abcdef"));
-    assert_eq!(rt; shelf.faults(b"a.hs"), 0);
+    assert!(rt; gives_first(&mut shelf, &name));
     Ok(())
+}
+
+fn gives_first(shelf: &mut MemShelf, name: &Bytes) -> bool {
+    gives(shelf, name, 4, b"abcd")
+        && gives(shelf, name, 7, b"abcdef")
+        && shelf.faults(name.as_slice()) == 0
 }
 
 #[test]
 fn a_name_that_is_not_held_is_a_fault(rt: HostRuntime) -> Result<(), Fail> {
     let mut shelf = shelf(rt.alloc(), &[])?;
     let name = bytes(rt.alloc(), b"b.hs")?;
-    assert!(rt; fails(&mut shelf, &name, 4));
-    assert_eq!(rt; shelf.faults(b"b.hs"), 1);
-    assert_eq!(rt; shelf.faults(b"a.hs"), 0);
+    assert!(rt; is_not_held(&mut shelf, &name));
     Ok(())
+}
+
+// A failure counts at its own name.
+fn is_not_held(shelf: &mut MemShelf, name: &Bytes) -> bool {
+    fails(shelf, name, 4) && shelf.faults(name.as_slice()) == 1 && shelf.faults(b"a.hs") == 0
 }
 
 #[test]
 fn a_listed_reading_call_fails(rt: HostRuntime) -> Result<(), Fail> {
     let mut shelf = shelf(rt.alloc(), &[1])?;
     let name = bytes(rt.alloc(), b"a.hs")?;
-    assert!(rt; gives(&mut shelf, &name, 9, b"abcdef"));
-    assert!(rt; fails(&mut shelf, &name, 9));
-    assert_eq!(rt; shelf.faults(b"a.hs"), 1);
+    assert!(rt; fails_second(&mut shelf, &name));
     Ok(())
+}
+
+fn fails_second(shelf: &mut MemShelf, name: &Bytes) -> bool {
+    gives(shelf, name, 9, b"abcdef") && fails(shelf, name, 9) && shelf.faults(name.as_slice()) == 1
 }
 
 #[test]
 fn an_output_keeps_what_is_put(rt: HostRuntime) -> Result<(), Fail> {
     let mut out = MemOut::new(rt.alloc(), 5, ListOf::new(rt.alloc()))?;
-    assert_eq!(rt; out.put(b"abc"), Ok(()));
-    assert_eq!(rt; out.put(b""), Ok(()));
-    assert_eq!(rt; out.put(b"def"), Err(OutFault::Failed));
-    assert_eq!(rt; out.bytes(), b"abcde".as_slice());
-    assert_eq!(rt; out.faults(), 1);
+    assert!(rt; keeps_five(&mut out));
     Ok(())
+}
+
+// An output with room for five bytes keeps those.
+fn keeps_five(out: &mut MemOut) -> bool {
+    out.put(b"abc") == Ok(())
+        && out.put(b"") == Ok(())
+        && out.put(b"def") == Err(OutFault::Failed)
+        && out.bytes() == b"abcde".as_slice()
+        && out.faults() == 1
 }
 
 #[test]
 fn a_listed_writing_call_writes_nothing(rt: HostRuntime) -> Result<(), Fail> {
     let failing = ListOf::from_slice(rt.alloc(), &[1])?;
     let mut out = MemOut::new(rt.alloc(), 100, failing)?;
-    assert_eq!(rt; out.put(b"abc"), Ok(()));
-    assert_eq!(rt; out.put(b"def"), Err(OutFault::Failed));
-    assert_eq!(rt; out.put(b"ghi"), Ok(()));
-    assert_eq!(rt; out.bytes(), b"abcghi".as_slice());
+    assert!(rt; leaves_out_the_second(&mut out));
     Ok(())
+}
+
+fn leaves_out_the_second(out: &mut MemOut) -> bool {
+    out.put(b"abc") == Ok(())
+        && out.put(b"def") == Err(OutFault::Failed)
+        && out.put(b"ghi") == Ok(())
+        && out.bytes() == b"abcghi".as_slice()
 }
 
 #[test]

@@ -22,24 +22,33 @@ fn two_arrows(alloc: Global) -> Result<Ty, NoMemory> {
     arrow(alloc, Ty::var(alloc, 0)?, inner)
 }
 
+// Nine nodes, which a smaller limit does not take.
+fn has_nine_nodes(term: &Ty) -> bool {
+    size(term, 9) == Some(9)
+        && size(term, 1000) == Some(9)
+        && size(term, 8) == None
+        && size(term, 0) == None
+}
+
 #[test]
 fn counts_nodes(rt: HostRuntime) -> Result<(), Fail> {
     let term = two_arrows(rt.alloc())?;
-    assert_eq!(rt; size(&term, 9), Some(9));
-    assert_eq!(rt; size(&term, 1000), Some(9));
-    assert_eq!(rt; size(&term, 8), None);
-    assert_eq!(rt; size(&term, 0), None);
+    assert!(rt; has_nine_nodes(&term));
     Ok(())
+}
+
+// Whether two types that were made are the same.
+fn are_same(left: Result<Ty, NoMemory>, right: Result<Ty, NoMemory>) -> Result<bool, NoMemory> {
+    Ok(same(&left?, &right?))
 }
 
 #[test]
 fn compares_terms(rt: HostRuntime) -> Result<(), Fail> {
     let alloc = rt.alloc();
-    assert!(rt; same(&two_arrows(alloc)?, &two_arrows(alloc)?));
-    let (name, var) = (Ty::name(alloc, 3)?, Ty::var(alloc, 3)?);
-    assert!(rt; !same(&name, &var));
-    assert!(rt; !same(&name, &Ty::name(alloc, 4)?));
-    assert!(rt; !same(&Ty::con(alloc, TyCon::Int)?, &Ty::con(alloc, TyCon::Char)?));
+    assert!(rt; are_same(two_arrows(alloc), two_arrows(alloc))?);
+    assert!(rt; !are_same(Ty::name(alloc, 3), Ty::var(alloc, 3))?);
+    assert!(rt; !are_same(Ty::name(alloc, 3), Ty::name(alloc, 4))?);
+    assert!(rt; !are_same(Ty::con(alloc, TyCon::Int), Ty::con(alloc, TyCon::Char))?);
     Ok(())
 }
 
@@ -144,22 +153,22 @@ fn copies_a_declaration(rt: HostRuntime) -> Result<(), Fail> {
     let alloc = rt.alloc();
     let field = two_arrows(alloc)?;
     let copy = copy_decl(alloc, &declaration(alloc, &field)?)?;
-    check_copy(&rt, &copy, &field)
+    assert!(rt; is_declaration(&copy, &field));
+    Ok(())
 }
 
-fn check_copy(rt: &impl Abort, copy: &DeclData, field: &Ty) -> Result<(), Fail> {
-    assert_eq!(rt; copy.origin, origin(Space::Types, 901));
-    assert!(rt; copy.is_newtype);
-    assert_eq!(rt; copy.params.as_slice().len(), 1);
-    let [con] = copy.constructors.as_slice() else {
-        return wrong(rt);
-    };
-    assert_eq!(rt; con.origin, origin(Space::Values, 902));
-    let [only] = con.fields.as_slice() else {
-        return wrong(rt);
-    };
-    assert!(rt; same(only, field));
-    Ok(())
+fn is_declaration(decl: &DeclData, field: &Ty) -> bool {
+    let constructors = decl.constructors.as_slice();
+    decl.origin == origin(Space::Types, 901)
+        && decl.is_newtype
+        && decl.params.as_slice().len() == 1
+        && constructors.len() == 1
+        && is_constructor(&constructors[0], field)
+}
+
+fn is_constructor(constructor: &DeclCon, field: &Ty) -> bool {
+    let fields = constructor.fields.as_slice();
+    constructor.origin == origin(Space::Values, 902) && fields.len() == 1 && same(&fields[0], field)
 }
 
 fn wrong(rt: &impl Abort) -> Result<(), Fail> {
