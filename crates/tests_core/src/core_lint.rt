@@ -303,32 +303,44 @@ fn list_decl(alloc: Global) -> Result<DeclData, NoMemory> {
     decl(alloc, LIST, NIL, CONS, cons_fields(alloc)?)
 }
 
-// A program whose one datatype is `List`, with no definition, and which runs this term
-fn program(alloc: Global, main: &[Op]) -> Result<CoreProgram, NoMemory> {
-    let mut decls = ListOf::new(alloc);
-    decls.push(list_decl(alloc)?)?;
-    Ok(CoreProgram {
-        decls,
-        defs: ListOf::new(alloc),
-        main: term(alloc, main)?,
-    })
-}
+// A definition of `Main`: its name, type and term
+type Row = (NameId, Form, &'static [Op]);
 
-// Adds a definition.
-fn define(
-    alloc: Global,
-    program: &mut CoreProgram,
-    name: NameId,
-    form: Form,
-    ops: &[Op],
-) -> Result<(), NoMemory> {
-    let ty = type_of(alloc, form)?;
+fn def_of(alloc: Global, row: &Row) -> Result<Def, NoMemory> {
+    let (name, form, ops) = row;
+    let ty = type_of(alloc, *form)?;
     let term = term(alloc, ops)?;
-    program.defs.push(Def {
-        name: main_name(name),
+    Ok(Def {
+        name: main_name(*name),
         ty,
         term,
     })
+}
+
+fn defs_of(alloc: Global, rows: &[Row]) -> Result<ListOf<Def>, NoMemory> {
+    let mut defs = ListOf::new(alloc);
+    for row in rows {
+        defs.push(def_of(alloc, row)?)?;
+    }
+    Ok(defs)
+}
+
+// The datatype of lists alone
+fn lists(alloc: Global) -> Result<ListOf<DeclData>, NoMemory> {
+    let mut decls = ListOf::new(alloc);
+    decls.push(list_decl(alloc)?)?;
+    Ok(decls)
+}
+
+// The program that runs a term.
+fn program(
+    alloc: Global,
+    decls: ListOf<DeclData>,
+    defs: ListOf<Def>,
+    main: &[Op],
+) -> Result<Boxed<CoreProgram>, NoMemory> {
+    let main = term(alloc, main)?;
+    Ok(Boxed::new(alloc, CoreProgram { decls, defs, main })?)
 }
 
 // ---- answers
@@ -379,34 +391,29 @@ fn is_wanted(alloc: Global, answer: &Result<(), LintFault>, want: &Want) -> Resu
     }
 }
 
-// The program has this answer.
-fn check_program(
-    rt: &impl Abort,
-    alloc: Global,
-    program: &CoreProgram,
-    want: &Want,
-) -> Result<(), Fail> {
+fn has_answer(alloc: Global, program: &CoreProgram, want: &Want) -> Result<bool, NoMemory> {
     let answer = lint(alloc, program);
-    assert!(rt; is_wanted(alloc, &answer, want)?);
-    Ok(())
+    is_wanted(alloc, &answer, want)
 }
 
-// A definition of `Main`: its name, type and term
-type Row = (NameId, Form, &'static [Op]);
+// Whether the program that runs a term, with these definitions, has this answer.
+fn defs_have(alloc: Global, main: &[Op], rows: &[Row], want: &Want) -> Result<bool, NoMemory> {
+    let decls = lists(alloc)?;
+    let defs = defs_of(alloc, rows)?;
+    let program = program(alloc, decls, defs, main)?;
+    has_answer(alloc, program.get(), want)
+}
 
 // The program that runs a term, with these definitions, has this answer.
 fn check_defs(
     rt: &impl Abort,
     alloc: Global,
     main: &[Op],
-    defs: &[Row],
+    rows: &[Row],
     want: &Want,
 ) -> Result<(), Fail> {
-    let mut program = program(alloc, main)?;
-    for (name, form, ops) in defs {
-        define(alloc, &mut program, *name, *form, ops)?;
-    }
-    check_program(rt, alloc, &program, want)
+    assert!(rt; defs_have(alloc, main, rows, want)?);
+    Ok(())
 }
 
 const MAIN_ALONE: [Op; 1] = [Op::Main(MAIN)];
@@ -416,12 +423,10 @@ fn check_def(
     rt: &impl Abort,
     alloc: Global,
     form: Form,
-    ops: &[Op],
+    ops: &'static [Op],
     want: &Want,
 ) -> Result<(), Fail> {
-    let mut program = program(alloc, &MAIN_ALONE)?;
-    define(alloc, &mut program, MAIN, form, ops)?;
-    check_program(rt, alloc, &program, want)
+    check_defs(rt, alloc, &MAIN_ALONE, &[(MAIN, form, ops)], want)
 }
 
 // A term with the answer where it is `Main.main` of the type of strings
@@ -694,31 +699,34 @@ fn finds_doubled_definitions(rt: HostRuntime) -> Result<(), Fail> {
     check_defs(&rt, rt.alloc(), &TEXT, &DOUBLED, &Want::Broken(0, 0))
 }
 
-// The program with a datatype more is broken before all definitions.
-fn check_decl(rt: &impl Abort, alloc: Global, decl: DeclData) -> Result<(), Fail> {
-    let mut program = program(alloc, &TEXT)?;
-    program.decls.push(decl)?;
-    check_program(rt, alloc, &program, &Want::Broken(0, 0))
+// Whether the program with this datatype more, whose second constructor has a field of the type `List` or none, is broken
+// before all definitions.
+fn is_broken_by(
+    alloc: Global,
+    name: NameId,
+    cons: (NameId, NameId),
+    has_field: bool,
+) -> Result<bool, NoMemory> {
+    let fields = if has_field {
+        list_field(alloc)?
+    } else {
+        ListOf::new(alloc)
+    };
+    let more = decl(alloc, name, cons.0, cons.1, fields)?;
+    let mut decls = ListOf::new(alloc);
+    decls.push(more)?;
+    decls.push(list_decl(alloc)?)?;
+    let program = program(alloc, decls, ListOf::new(alloc), &TEXT)?;
+    has_answer(alloc, program.get(), &Want::Broken(0, 0))
 }
 
 #[test]
 fn finds_wrong_datatypes(rt: HostRuntime) -> Result<(), Fail> {
     let alloc = rt.alloc();
-    check_decl(
-        &rt,
-        alloc,
-        decl(alloc, LIST, TRUE, FALSE, ListOf::new(alloc))?,
-    )?;
-    check_decl(
-        &rt,
-        alloc,
-        decl(alloc, MAYBE, NIL, FALSE, ListOf::new(alloc))?,
-    )?;
-    check_decl(
-        &rt,
-        alloc,
-        decl(alloc, MAYBE, TRUE, FALSE, list_field(alloc)?)?,
-    )
+    assert!(rt; is_broken_by(alloc, LIST, (TRUE, FALSE), false)?);
+    assert!(rt; is_broken_by(alloc, MAYBE, (NIL, FALSE), false)?);
+    assert!(rt; is_broken_by(alloc, MAYBE, (TRUE, FALSE), true)?);
+    Ok(())
 }
 
 const ONE: [Row; 1] = [(MAIN, Form::Text, &TEXT)];
