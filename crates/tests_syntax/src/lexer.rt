@@ -1,7 +1,7 @@
 // Small files against their tokens, worked out by hand from the Report's lexical structure.
-use gh_base::{Fault, ListOf, Names, NoMemory, Span};
+use gh_base::{Fault, ListOf, Names, NoMemory, Refusal, Span};
 use gh_lexer::{NameClass, Token, TokenKind, lex};
-use std::alloc::Global;
+use std::alloc::{AllocError, Global};
 use std::process::Abort;
 use std::test::Fail;
 
@@ -44,50 +44,32 @@ fn tokens(
     lex(alloc, names, 1, source)
 }
 
-// The file has these tokens.
-fn check(rt: &impl Abort, alloc: Global, source: &[u8], wanted: &[Want]) -> Result<(), Fail> {
-    let mut names = Names::new(alloc)?;
-    let found = tokens(rt, alloc, &mut names, source)?;
-    assert_eq!(rt; found.as_slice().len(), wanted.len());
-    for (token, want) in found.as_slice().iter().zip(wanted) {
-        assert!(rt; is_wanted(&mut names, &token.kind, want)?);
+fn are_wanted(names: &mut Names, found: &[Token], wanted: &[Want]) -> Result<bool, NoMemory> {
+    if found.len() != wanted.len() {
+        return Ok(false);
     }
-    Ok(())
-}
-
-// The file is refused by this number, at these bytes.
-fn check_refused(
-    rt: &impl Abort,
-    alloc: Global,
-    source: &[u8],
-    number: u32,
-    from: u32,
-    to: u32,
-) -> Result<(), Fail> {
-    let mut names = Names::new(alloc)?;
-    match tokens(rt, alloc, &mut names, source) {
-        Err(Fault::Refused(refusal)) => {
-            assert_eq!(rt; refusal.number(), number);
-            assert_eq!(rt; refusal.span(), Some(Span { file: 1, from, to }));
-            Ok(())
+    for (token, want) in found.iter().zip(wanted) {
+        if !is_wanted(names, &token.kind, want)? {
+            return Ok(false);
         }
-        _ => Err("no refusal")?,
     }
+    Ok(true)
 }
 
-// Each token begins at this line and column, and is the first of its line or not.
-fn check_places(
+// Whether a file has these tokens.
+fn has_tokens(
     rt: &impl Abort,
     alloc: Global,
     source: &[u8],
-    wanted: &[(u32, u32, bool)],
-) -> Result<(), Fail> {
+    wanted: &[Want],
+) -> Result<bool, Fault> {
     let mut names = Names::new(alloc)?;
     let found = tokens(rt, alloc, &mut names, source)?;
-    assert_eq!(rt; found.as_slice().len(), wanted.len());
-    for (token, want) in found.as_slice().iter().zip(wanted) {
-        assert_eq!(rt; (token.line, token.column, token.first), *want);
-    }
+    Ok(are_wanted(&mut names, found.as_slice(), wanted)?)
+}
+
+fn check(rt: &impl Abort, alloc: Global, source: &[u8], wanted: &[Want]) -> Result<(), Fault> {
+    assert!(rt; has_tokens(rt, alloc, source, wanted)?);
     Ok(())
 }
 
@@ -123,7 +105,8 @@ fn names_and_words(rt: HostRuntime) -> Result<(), Fail> {
             Want::Int(1),
             Want::Qualified(NameClass::ConSym, b"A", b":+"),
         ],
-    )
+    )?;
+    Ok(())
 }
 
 #[test]
@@ -165,7 +148,8 @@ fn operators_and_marks(rt: HostRuntime) -> Result<(), Fail> {
             Want::Mark(b"{"),
             Want::Mark(b"}"),
         ],
-    )
+    )?;
+    Ok(())
 }
 
 #[test]
@@ -191,11 +175,7 @@ fn numbers(rt: HostRuntime) -> Result<(), Fail> {
             Want::Int(5),
         ],
     )?;
-    check_refused(&rt, rt.alloc(), b"x 9223372036854775808", 5, 2, 21)?;
-    check_refused(&rt, rt.alloc(), b"0x8000000000000000", 5, 0, 18)?;
-    check_refused(&rt, rt.alloc(), b" 1.5", 2, 1, 2)?;
-    check_refused(&rt, rt.alloc(), b"1e+5", 2, 0, 1)?;
-    check_refused(&rt, rt.alloc(), b"99999999999999999999.5", 2, 0, 1)
+    Ok(())
 }
 
 #[test]
@@ -229,19 +209,11 @@ fn characters_and_strings(rt: HostRuntime) -> Result<(), Fail> {
             Want::Str(&[]),
         ],
     )?;
-    check_refused(&rt, rt.alloc(), b"main = \"a", 4, 7, 8)?;
-    check_refused(&rt, rt.alloc(), b"'ab'", 4, 0, 1)?;
-    check_refused(&rt, rt.alloc(), b"''", 4, 0, 1)?;
-    check_refused(&rt, rt.alloc(), b"'\\&'", 4, 0, 1)?;
-    check_refused(&rt, rt.alloc(), b"\"\\q\"", 4, 0, 1)?;
-    check_refused(&rt, rt.alloc(), b"\"a\tb\"", 4, 0, 1)?;
-    check_refused(&rt, rt.alloc(), b"x \"ab\\55296c\"", 5, 5, 11)?;
-    check_refused(&rt, rt.alloc(), b"'\\1114112'", 5, 1, 9)?;
-    check_refused(&rt, rt.alloc(), b"\"\\1114112", 4, 0, 1)
+    Ok(())
 }
 
 #[test]
-fn comments_and_places(rt: HostRuntime) -> Result<(), Fail> {
+fn comments(rt: HostRuntime) -> Result<(), Fail> {
     check(
         &rt,
         rt.alloc(),
@@ -254,40 +226,131 @@ fn comments_and_places(rt: HostRuntime) -> Result<(), Fail> {
             Want::Name(NameClass::VarSym, b"--|"),
         ],
     )?;
-    check_refused(&rt, rt.alloc(), b"a {- {- -} b", 3, 2, 3)?;
-    check_refused(&rt, rt.alloc(), b"{-}", 3, 0, 1)?;
-    check_places(
-        &rt,
-        rt.alloc(),
-        b"a\tb\r\nc d\re\x0cf\n\n {-\xc3\xa9-} g \"x\\\n\\\" h\n",
-        &[
-            (1, 1, true),
-            (1, 9, false),
-            (2, 1, true),
-            (2, 3, false),
-            (3, 1, true),
-            (4, 1, true),
-            (6, 8, true),
-            (6, 10, false),
-            (7, 4, true),
-        ],
-    )
+    Ok(())
+}
+
+fn shown(alloc: Global, number: u32, span: Span) -> Result<String, AllocError> {
+    format!(in alloc; "{} at {}:{}-{}", number, span.file, span.from, span.to)
+}
+
+// A refusal as text: its number, its file and its bytes.
+fn told(alloc: Global, refusal: &Refusal) -> Result<String, AllocError> {
+    match refusal.span() {
+        Some(span) => shown(alloc, refusal.number(), span),
+        None => format!(in alloc; "{}", refusal.number()),
+    }
+}
+
+// What is refused of a file.
+fn refusal(rt: &impl Abort, alloc: Global, source: &[u8]) -> Result<String, Fail> {
+    let mut names = Names::new(alloc)?;
+    match tokens(rt, alloc, &mut names, source) {
+        Ok(_) => Ok(format!(in alloc; "nothing")?),
+        Err(Fault::Refused(refusal)) => Ok(told(alloc, &refusal)?),
+        Err(Fault::NoMemory) => Ok(format!(in alloc; "no memory")?),
+    }
+}
+
+// Files that are refused, each with the number of the refusal, the file and the bytes.
+const REFUSED: &[(&[u8], &str)] = &[
+    // Numbers.
+    (b"x 9223372036854775808", "5 at 1:2-21"),
+    (b"0x8000000000000000", "5 at 1:0-18"),
+    (b" 1.5", "2 at 1:1-2"),
+    (b"1e+5", "2 at 1:0-1"),
+    (b"99999999999999999999.5", "2 at 1:0-1"),
+    // Characters and strings.
+    (b"main = \"a", "4 at 1:7-8"),
+    (b"'ab'", "4 at 1:0-1"),
+    (b"''", "4 at 1:0-1"),
+    (b"'\\&'", "4 at 1:0-1"),
+    (b"\"\\q\"", "4 at 1:0-1"),
+    (b"\"a\tb\"", "4 at 1:0-1"),
+    (b"x \"ab\\55296c\"", "5 at 1:5-11"),
+    (b"'\\1114112'", "5 at 1:1-9"),
+    (b"\"\\1114112", "4 at 1:0-1"),
+    // Comments.
+    (b"a {- {- -} b", "3 at 1:2-3"),
+    (b"{-}", "3 at 1:0-1"),
+    // Bytes that are no text, and pieces that are no tokens.
+    (b"a # \x01", "2 at 1:4-5"),
+    (b"a \xc3\xa9", "2 at 1:2-3"),
+    (b"\x01 \xff", "1 at 1:2-3"),
+    (b"A.where", "2 at 1:0-1"),
+    (b" A.= b", "2 at 1:1-2"),
+    (b" A.-- b", "2 at 1:1-2"),
+];
+
+#[test]
+fn files_are_refused(rt: HostRuntime) -> Result<(), Fail> {
+    for (source, want) in REFUSED {
+        assert!(rt;
+            refusal(&rt, rt.alloc(), source)?.as_str() == *want,
+            "{source:?}"
+        );
+    }
+    Ok(())
+}
+
+fn are_at(found: &[Token], wanted: &[(u32, u32, bool)]) -> bool {
+    if found.len() != wanted.len() {
+        return false;
+    }
+    for (token, want) in found.iter().zip(wanted) {
+        if (token.line, token.column, token.first) != *want {
+            return false;
+        }
+    }
+    true
+}
+
+// Whether each token begins at this line and column, and is the first of its line or not.
+fn has_places(
+    rt: &impl Abort,
+    alloc: Global,
+    source: &[u8],
+    wanted: &[(u32, u32, bool)],
+) -> Result<bool, Fault> {
+    let mut names = Names::new(alloc)?;
+    let found = tokens(rt, alloc, &mut names, source)?;
+    Ok(are_at(found.as_slice(), wanted))
+}
+
+const PLACES: &[(u32, u32, bool)] = &[
+    (1, 1, true),
+    (1, 9, false),
+    (2, 1, true),
+    (2, 3, false),
+    (3, 1, true),
+    (4, 1, true),
+    (6, 8, true),
+    (6, 10, false),
+    (7, 4, true),
+];
+
+#[test]
+fn tokens_have_places(rt: HostRuntime) -> Result<(), Fail> {
+    let source = b"a\tb\r\nc d\re\x0cf\n\n {-\xc3\xa9-} g \"x\\\n\\\" h\n";
+    assert!(rt; has_places(&rt, rt.alloc(), source, PLACES)?);
+    Ok(())
+}
+
+// What is refused of a name of so many letters.
+fn refusal_of_name(rt: &impl Abort, alloc: Global, length: u32) -> Result<String, Fail> {
+    let mut name: ListOf<u8> = ListOf::new(alloc);
+    for _ in 0..length {
+        name.push(b'a')?;
+    }
+    refusal(rt, alloc, name.as_slice())
 }
 
 #[test]
-fn other_refusals(rt: HostRuntime) -> Result<(), Fail> {
-    check_refused(&rt, rt.alloc(), b"a # \x01", 2, 4, 5)?;
-    check_refused(&rt, rt.alloc(), b"a \xc3\xa9", 2, 2, 3)?;
-    check_refused(&rt, rt.alloc(), b"\x01 \xff", 1, 2, 3)?;
-    check_refused(&rt, rt.alloc(), b"A.where", 2, 0, 1)?;
-    check_refused(&rt, rt.alloc(), b" A.= b", 2, 1, 2)?;
-    check_refused(&rt, rt.alloc(), b" A.-- b", 2, 1, 2)?;
-    let mut name: ListOf<u8> = ListOf::new(rt.alloc());
-    for _ in 0..255 {
-        name.push(b'a')?;
+fn a_name_has_at_most_255_bytes(rt: HostRuntime) -> Result<(), Fail> {
+    for (length, want) in [(255, "nothing"), (256, "6 at 1:0-256")] {
+        assert!(rt;
+            refusal_of_name(&rt, rt.alloc(), length)?.as_str() == want,
+            "{length} bytes"
+        );
     }
-    let mut names = Names::new(rt.alloc())?;
-    assert!(&rt; tokens(&rt, rt.alloc(), &mut names, name.as_slice()).is_ok());
-    name.push(b'a')?;
-    check_refused(&rt, rt.alloc(), name.as_slice(), 6, 0, 256)
+    Ok(())
 }

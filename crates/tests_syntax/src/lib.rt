@@ -8,6 +8,8 @@ mod lexer;
 #[cfg(test)]
 mod limits;
 #[cfg(test)]
+mod nested;
+#[cfg(test)]
 mod parse_exps;
 #[cfg(test)]
 mod parse_lefts;

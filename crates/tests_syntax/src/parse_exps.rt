@@ -1,10 +1,11 @@
 // Texts in which each character is a token: which of them are expressions.
 use gh_base::fixed::MINUS;
-use gh_base::{ListOf, NameId, Span};
+use gh_base::{ListOf, NameId, NoMemory, Span};
 use gh_parse_exps::parse_exp;
 use gh_reader::Stop;
 use gh_tree::{Kind, Sym};
 use std::alloc::Global;
+use std::process::Abort;
 use std::test::Fail;
 
 const NAME: NameId = NameId(200);
@@ -51,7 +52,7 @@ fn kind_of(letter: u8) -> Kind {
     }
 }
 
-fn syms_of(alloc: Global, text: &str) -> Result<ListOf<Sym>, Fail> {
+fn syms_of(alloc: Global, text: &str) -> Result<ListOf<Sym>, NoMemory> {
     let mut syms = ListOf::new(alloc);
     let mut from = 0u32;
     for letter in text.as_bytes() {
@@ -69,82 +70,58 @@ fn syms_of(alloc: Global, text: &str) -> Result<ListOf<Sym>, Fail> {
     Ok(syms)
 }
 
-fn is_read(alloc: Global, text: &str) -> Result<bool, Fail> {
+// Whether a text is an expression.
+fn read(alloc: Global, text: &str) -> Result<&'static str, NoMemory> {
     let syms = syms_of(alloc, text)?;
-    Ok(parse_exp(alloc, syms.as_slice()).is_ok())
+    Ok(match &parse_exp(alloc, syms.as_slice()) {
+        Ok(_) => "expression",
+        Err(Stop::NoParse) => "none",
+        Err(Stop::NoMemory) => "no memory",
+    })
 }
 
-fn is_refused(alloc: Global, text: &str) -> Result<bool, Fail> {
-    let syms = syms_of(alloc, text)?;
-    Ok(matches!(parse_exp(alloc, syms.as_slice()), Err(Stop::NoParse)))
-}
+// Texts, parted by spaces, and what each is read as.
+const FORMS: &[(&str, &str)] = &[
+    // Operands have operators between them; the last text is empty.
+    ("expression", "-xx5+C.-m`x`-x:x"),
+    ("none", "x+ "),
+    // Only the last operand goes on.
+    ("expression", "x+\\xtx+x (\\xtx)+x"),
+    ("none", "(\\xtx+) \\tx"),
+    // Sections lack an operand.
+    ("expression", "(x-) (+x)(!x)(`x`-x)(.x) (-x)(-)(!)"),
+    ("none", "(:) (xdC+)"),
+    // Tuples have up to seven parts.
+    ("expression", "(x,x,x,x,x,x,x)()(,)[x,x][]"),
+    ("none", "(x,x,x,x,x,x,x,x) [x,]"),
+    // A type stands behind closed operands.
+    ("expression", "xdCtC \\xtxdC m<C>x"),
+    ("none", "xdCdC"),
+    // Alternatives have closed conditions.
+    ("expression", "SxO{;Cxtx;;_|xtx|xtxW{x=x}}"),
+    ("none", "SxO{} SxO{x|xdCtx} SxO{_tx_tx}"),
+    // Locals are declarations or redefinitions.
+    (
+        "expression",
+        "L{}Nx L{x,xdC;F5+;xx=x;(x,x)|x=x}Nx L{m<x>=x;(+)<x>=x;}Nx",
+    ),
+    ("none", "L{m<x>=x;x=x}Nx L{x=x;x<x>=x}Nx"),
+    // A conditional has three parts.
+    ("expression", "IxTxExdC"),
+    ("none", "IxTx"),
+];
 
-#[test]
-fn operands_have_operators_between_them(rt: HostRuntime) -> Result<(), Fail> {
-    assert!(rt; is_read(rt.alloc(), "-xx5+C.-m`x`-x:x")?);
-    assert!(rt; is_refused(rt.alloc(), "x+")?);
-    assert!(rt; is_refused(rt.alloc(), "")?);
+fn agree(rt: &impl Abort, alloc: Global, want: &str, texts: &str) -> Result<(), NoMemory> {
+    for text in texts.split(' ') {
+        assert!(rt; read(alloc, text)? == want, "{text}");
+    }
     Ok(())
 }
 
 #[test]
-fn only_the_last_operand_goes_on(rt: HostRuntime) -> Result<(), Fail> {
-    assert!(rt; is_read(rt.alloc(), "x+\\xtx+x")?);
-    assert!(rt; is_read(rt.alloc(), "(\\xtx)+x")?);
-    assert!(rt; is_refused(rt.alloc(), "(\\xtx+)")?);
-    assert!(rt; is_refused(rt.alloc(), "\\tx")?);
-    Ok(())
-}
-
-#[test]
-fn sections_lack_an_operand(rt: HostRuntime) -> Result<(), Fail> {
-    assert!(rt; is_read(rt.alloc(), "(x-)")?);
-    assert!(rt; is_read(rt.alloc(), "(+x)(!x)(`x`-x)(.x)")?);
-    assert!(rt; is_read(rt.alloc(), "(-x)(-)(!)")?);
-    assert!(rt; is_refused(rt.alloc(), "(:)")?);
-    assert!(rt; is_refused(rt.alloc(), "(xdC+)")?);
-    Ok(())
-}
-
-#[test]
-fn tuples_have_up_to_seven_parts(rt: HostRuntime) -> Result<(), Fail> {
-    assert!(rt; is_read(rt.alloc(), "(x,x,x,x,x,x,x)()(,)[x,x][]")?);
-    assert!(rt; is_refused(rt.alloc(), "(x,x,x,x,x,x,x,x)")?);
-    assert!(rt; is_refused(rt.alloc(), "[x,]")?);
-    Ok(())
-}
-
-#[test]
-fn a_type_stands_behind_closed_operands(rt: HostRuntime) -> Result<(), Fail> {
-    assert!(rt; is_read(rt.alloc(), "xdCtC")?);
-    assert!(rt; is_read(rt.alloc(), "\\xtxdC")?);
-    assert!(rt; is_read(rt.alloc(), "m<C>x")?);
-    assert!(rt; is_refused(rt.alloc(), "xdCdC")?);
-    Ok(())
-}
-
-#[test]
-fn alternatives_have_closed_conditions(rt: HostRuntime) -> Result<(), Fail> {
-    assert!(rt; is_read(rt.alloc(), "SxO{;Cxtx;;_|xtx|xtxW{x=x}}")?);
-    assert!(rt; is_refused(rt.alloc(), "SxO{}")?);
-    assert!(rt; is_refused(rt.alloc(), "SxO{x|xdCtx}")?);
-    assert!(rt; is_refused(rt.alloc(), "SxO{_tx_tx}")?);
-    Ok(())
-}
-
-#[test]
-fn locals_are_declarations_or_redefinitions(rt: HostRuntime) -> Result<(), Fail> {
-    assert!(rt; is_read(rt.alloc(), "L{}Nx")?);
-    assert!(rt; is_read(rt.alloc(), "L{x,xdC;F5+;xx=x;(x,x)|x=x}Nx")?);
-    assert!(rt; is_read(rt.alloc(), "L{m<x>=x;(+)<x>=x;}Nx")?);
-    assert!(rt; is_refused(rt.alloc(), "L{m<x>=x;x=x}Nx")?);
-    assert!(rt; is_refused(rt.alloc(), "L{x=x;x<x>=x}Nx")?);
-    Ok(())
-}
-
-#[test]
-fn a_conditional_has_three_parts(rt: HostRuntime) -> Result<(), Fail> {
-    assert!(rt; is_read(rt.alloc(), "IxTxExdC")?);
-    assert!(rt; is_refused(rt.alloc(), "IxTx")?);
+fn expressions_have_forms(rt: HostRuntime) -> Result<(), Fail> {
+    for (want, texts) in FORMS {
+        agree(&rt, rt.alloc(), want, texts)?;
+    }
     Ok(())
 }

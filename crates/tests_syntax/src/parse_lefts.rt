@@ -1,10 +1,11 @@
 // Texts in which each character is a token: what each is read as.
 use gh_base::fixed::MINUS;
-use gh_base::{ListOf, NameId, Span};
+use gh_base::{ListOf, NameId, NoMemory, Span};
 use gh_parse_lefts::{Left, parse_left};
 use gh_reader::Stop;
 use gh_tree::{Kind, Sym};
 use std::alloc::Global;
+use std::process::Abort;
 use std::test::Fail;
 
 const NAME: NameId = NameId(200);
@@ -29,7 +30,7 @@ fn kind_of(letter: u8) -> Kind {
     }
 }
 
-fn syms_of(alloc: Global, text: &str) -> Result<ListOf<Sym>, Fail> {
+fn syms_of(alloc: Global, text: &str) -> Result<ListOf<Sym>, NoMemory> {
     let mut syms = ListOf::new(alloc);
     let mut from = 0u32;
     for letter in text.as_bytes() {
@@ -47,64 +48,51 @@ fn syms_of(alloc: Global, text: &str) -> Result<ListOf<Sym>, Fail> {
     Ok(syms)
 }
 
-fn is_function(alloc: Global, text: &str) -> Result<bool, Fail> {
+// What a text is read as.
+fn read(alloc: Global, text: &str) -> Result<&'static str, NoMemory> {
     let syms = syms_of(alloc, text)?;
-    Ok(matches!(parse_left(alloc, syms.as_slice()), Ok(Left::Function(_))))
+    Ok(match &parse_left(alloc, syms.as_slice()) {
+        Ok(Left::Function(_)) => "function",
+        Ok(Left::Pattern(_)) => "pattern",
+        Err(Stop::NoParse) => "none",
+        Err(Stop::NoMemory) => "no memory",
+    })
 }
 
-fn is_pattern(alloc: Global, text: &str) -> Result<bool, Fail> {
-    let syms = syms_of(alloc, text)?;
-    Ok(matches!(parse_left(alloc, syms.as_slice()), Ok(Left::Pattern(_))))
-}
+// Texts, parted by spaces, and what each is read as.
+const FORMS: &[(&str, &str)] = &[
+    // A variable with arguments is a function; the last text is empty.
+    ("function", "x (+)x_(C5)"),
+    ("none", "xx, "),
+    // One operator is defined.
+    ("function", "x+x x-5 Cx:x`x`(x,x):-5"),
+    ("none", "x+x+x x.x x!x+x"),
+    // A left side between parentheses has an argument.
+    ("function", "(x+x)x ((x)x)x_"),
+    ("none", "(x+x) ((x))x (xx)+x"),
+    // A pattern is more than a variable.
+    ("pattern", "(x) x@(x,_) x:x!((-5))"),
+    ("none", "x: (x+x,x)"),
+];
 
-fn is_refused(alloc: Global, text: &str) -> Result<bool, Fail> {
-    let syms = syms_of(alloc, text)?;
-    Ok(matches!(parse_left(alloc, syms.as_slice()), Err(Stop::NoParse)))
-}
-
-#[test]
-fn a_variable_with_arguments_is_a_function(rt: HostRuntime) -> Result<(), Fail> {
-    assert!(rt; is_function(rt.alloc(), "x")?);
-    assert!(rt; is_function(rt.alloc(), "(+)x_(C5)")?);
-    assert!(rt; is_refused(rt.alloc(), "xx,")?);
-    assert!(rt; is_refused(rt.alloc(), "")?);
+fn agree(rt: &impl Abort, alloc: Global, want: &str, texts: &str) -> Result<(), NoMemory> {
+    for text in texts.split(' ') {
+        assert!(rt; read(alloc, text)? == want, "{text}");
+    }
     Ok(())
 }
 
 #[test]
-fn one_operator_is_defined(rt: HostRuntime) -> Result<(), Fail> {
-    assert!(rt; is_function(rt.alloc(), "x+x")?);
-    assert!(rt; is_function(rt.alloc(), "x-5")?);
-    assert!(rt; is_function(rt.alloc(), "Cx:x`x`(x,x):-5")?);
-    assert!(rt; is_refused(rt.alloc(), "x+x+x")?);
-    assert!(rt; is_refused(rt.alloc(), "x.x")?);
-    assert!(rt; is_refused(rt.alloc(), "x!x+x")?);
+fn left_sides_have_forms(rt: HostRuntime) -> Result<(), Fail> {
+    for (want, texts) in FORMS {
+        agree(&rt, rt.alloc(), want, texts)?;
+    }
     Ok(())
 }
 
-#[test]
-fn a_left_side_between_parentheses_has_an_argument(rt: HostRuntime) -> Result<(), Fail> {
-    assert!(rt; is_function(rt.alloc(), "(x+x)x")?);
-    assert!(rt; is_function(rt.alloc(), "((x)x)x_")?);
-    assert!(rt; is_refused(rt.alloc(), "(x+x)")?);
-    assert!(rt; is_refused(rt.alloc(), "((x))x")?);
-    assert!(rt; is_refused(rt.alloc(), "(xx)+x")?);
-    Ok(())
-}
-
-#[test]
-fn a_pattern_is_more_than_a_variable(rt: HostRuntime) -> Result<(), Fail> {
-    assert!(rt; is_pattern(rt.alloc(), "(x)")?);
-    assert!(rt; is_pattern(rt.alloc(), "x@(x,_)")?);
-    assert!(rt; is_pattern(rt.alloc(), "x:x!((-5))")?);
-    assert!(rt; is_refused(rt.alloc(), "x:")?);
-    assert!(rt; is_refused(rt.alloc(), "(x+x,x)")?);
-    Ok(())
-}
-
-#[test]
-fn nested_parentheses_are_read(rt: HostRuntime) -> Result<(), Fail> {
-    let mut text = String::new(rt.alloc());
+// What a variable between a thousand parentheses is read as, before this text.
+fn read_nested(alloc: Global, last: &str) -> Result<&'static str, NoMemory> {
+    let mut text = String::new(alloc);
     for _ in 0..1000 {
         text.push('(')?;
     }
@@ -112,8 +100,14 @@ fn nested_parentheses_are_read(rt: HostRuntime) -> Result<(), Fail> {
     for _ in 0..1000 {
         text.push(')')?;
     }
-    assert!(rt; is_pattern(rt.alloc(), text.as_str())?);
-    text.push('x')?;
-    assert!(rt; is_refused(rt.alloc(), text.as_str())?);
+    text.push_str(last)?;
+    read(alloc, text.as_str())
+}
+
+#[test]
+fn nested_parentheses_are_read(rt: HostRuntime) -> Result<(), Fail> {
+    for (last, want) in [("", "pattern"), ("x", "none")] {
+        assert!(rt; read_nested(rt.alloc(), last)? == want, "{last}");
+    }
     Ok(())
 }

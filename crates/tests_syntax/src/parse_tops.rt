@@ -1,10 +1,11 @@
 // Texts in which each character is a token: which form of declaration each is read as.
 use gh_base::fixed::EXTENDS;
-use gh_base::{ListOf, NameId, Span};
+use gh_base::{ListOf, NameId, NoMemory, Span};
 use gh_parse_tops::parse_top;
 use gh_reader::Stop;
 use gh_tree::{Kind, Sym, Top};
 use std::alloc::Global;
+use std::process::Abort;
 use std::test::Fail;
 
 const NAME: NameId = NameId(200);
@@ -48,7 +49,7 @@ fn kind_of(letter: u8) -> Kind {
     }
 }
 
-fn syms_of(alloc: Global, text: &str) -> Result<ListOf<Sym>, Fail> {
+fn syms_of(alloc: Global, text: &str) -> Result<ListOf<Sym>, NoMemory> {
     let mut syms = ListOf::new(alloc);
     let mut from = 0u32;
     for letter in text.as_bytes() {
@@ -80,97 +81,56 @@ fn form(top: &Top) -> &'static str {
 }
 
 // Which form of declaration this text is, if any.
-fn read(alloc: Global, text: &str) -> Result<&'static str, Fail> {
+fn read(alloc: Global, text: &str) -> Result<&'static str, NoMemory> {
     let syms = syms_of(alloc, text)?;
-    Ok(match parse_top(alloc, syms.as_slice()) {
+    Ok(match &parse_top(alloc, syms.as_slice()) {
         Ok(top) => form(top.get()),
         Err(Stop::NoParse) => "none",
         Err(Stop::NoMemory) => "no memory",
     })
 }
 
-#[test]
-fn synonyms(rt: HostRuntime) -> Result<(), Fail> {
-    assert_eq!(rt; read(rt.alloc(), "TCxx=C(x-x)")?, "synonym");
-    assert_eq!(rt; read(rt.alloc(), "TC=C-Q")?, "synonym");
-    assert_eq!(rt; read(rt.alloc(), "TCx=")?, "none");
-    assert_eq!(rt; read(rt.alloc(), "TQ=C")?, "none");
-    assert_eq!(rt; read(rt.alloc(), "Tx=C")?, "none");
+// Texts, parted by spaces, and the form that each is read as.
+const FORMS: &[(&str, &str)] = &[
+    // A synonym has a constructor for its name, without a qualifier, and a type.
+    ("synonym", "TCxx=C(x-x) TC=C-Q"),
+    ("none", "TCx= TQ=C Tx=C"),
+    // A datatype has constructors, between bars and without a qualifier.
+    ("datatype", "DCxxxxxxxxx=C DCx=Cxx|Cx*x|(*)Cx|C"),
+    ("none", "DC= DC=C| DC=Q DCx=x!x DCx=xC DCx=C(*)x"),
+    // A newtype has one constructor with one field.
+    ("newtype", "NCx=Cx NCx=(*)(x-x)"),
+    ("none", "NC=C NC=CCC NC=C*C"),
+    // The signature of a generic function has variables, and may have dependencies before `=>`.
+    (
+        "signature",
+        "x<x>#x-x (+)<x,x|x,x>#(x<x>,q<x|x>)~x x<x>#()~x x<x>#() x<x>#()-x",
+    ),
+    ("none", "x<x>#~x x<x>#(x)~x x<>#x x<x|>#x q<x>#x"),
+    // A case of a generic function has arguments and a right side.
+    ("case", "x<C>x(C5)=x x<x>=x (+)<Cx-x>|x=5|x=x"),
+    ("none", "x<x> x<C>#x x<C>+=x"),
+    // An extension ends behind the second variable.
+    ("extension", "xeq (+)e(+) eee"),
+    ("declaration", "xex=x xe=x"),
+    ("none", "xe qex xeC"),
+    // Other declarations.
+    ("declaration", "xx=x x,x#x-x I5+"),
+    // No declarations; the last text is empty.
+    ("none", "x =x "),
+];
+
+fn agree(rt: &impl Abort, alloc: Global, want: &str, texts: &str) -> Result<(), NoMemory> {
+    for text in texts.split(' ') {
+        assert!(rt; read(alloc, text)? == want, "{text}");
+    }
     Ok(())
 }
 
 #[test]
-fn datatypes(rt: HostRuntime) -> Result<(), Fail> {
-    assert_eq!(rt; read(rt.alloc(), "DCxxxxxxxxx=C")?, "datatype");
-    assert_eq!(rt; read(rt.alloc(), "DCx=Cxx|Cx*x|(*)Cx|C")?, "datatype");
-    assert_eq!(rt; read(rt.alloc(), "DC=")?, "none");
-    assert_eq!(rt; read(rt.alloc(), "DC=C|")?, "none");
-    assert_eq!(rt; read(rt.alloc(), "DC=Q")?, "none");
-    assert_eq!(rt; read(rt.alloc(), "DCx=x!x")?, "none");
-    assert_eq!(rt; read(rt.alloc(), "DCx=xC")?, "none");
-    assert_eq!(rt; read(rt.alloc(), "DCx=C(*)x")?, "none");
-    Ok(())
-}
-
-#[test]
-fn newtypes(rt: HostRuntime) -> Result<(), Fail> {
-    assert_eq!(rt; read(rt.alloc(), "NCx=Cx")?, "newtype");
-    assert_eq!(rt; read(rt.alloc(), "NCx=(*)(x-x)")?, "newtype");
-    assert_eq!(rt; read(rt.alloc(), "NC=C")?, "none");
-    assert_eq!(rt; read(rt.alloc(), "NC=CCC")?, "none");
-    assert_eq!(rt; read(rt.alloc(), "NC=C*C")?, "none");
-    Ok(())
-}
-
-#[test]
-fn generic_signatures(rt: HostRuntime) -> Result<(), Fail> {
-    assert_eq!(rt; read(rt.alloc(), "x<x>#x-x")?, "signature");
-    assert_eq!(rt;
-        read(rt.alloc(), "(+)<x,x|x,x>#(x<x>,q<x|x>)~x")?,
-        "signature"
-    );
-    assert_eq!(rt; read(rt.alloc(), "x<x>#()~x")?, "signature");
-    assert_eq!(rt; read(rt.alloc(), "x<x>#()")?, "signature");
-    assert_eq!(rt; read(rt.alloc(), "x<x>#()-x")?, "signature");
-    assert_eq!(rt; read(rt.alloc(), "x<x>#~x")?, "none");
-    assert_eq!(rt; read(rt.alloc(), "x<x>#(x)~x")?, "none");
-    assert_eq!(rt; read(rt.alloc(), "x<>#x")?, "none");
-    assert_eq!(rt; read(rt.alloc(), "x<x|>#x")?, "none");
-    assert_eq!(rt; read(rt.alloc(), "q<x>#x")?, "none");
-    Ok(())
-}
-
-#[test]
-fn generic_cases(rt: HostRuntime) -> Result<(), Fail> {
-    assert_eq!(rt; read(rt.alloc(), "x<C>x(C5)=x")?, "case");
-    assert_eq!(rt; read(rt.alloc(), "x<x>=x")?, "case");
-    assert_eq!(rt; read(rt.alloc(), "(+)<Cx-x>|x=5|x=x")?, "case");
-    assert_eq!(rt; read(rt.alloc(), "x<x>")?, "none");
-    assert_eq!(rt; read(rt.alloc(), "x<C>#x")?, "none");
-    assert_eq!(rt; read(rt.alloc(), "x<C>+=x")?, "none");
-    Ok(())
-}
-
-#[test]
-fn extensions_end_behind_the_second_variable(rt: HostRuntime) -> Result<(), Fail> {
-    assert_eq!(rt; read(rt.alloc(), "xeq")?, "extension");
-    assert_eq!(rt; read(rt.alloc(), "(+)e(+)")?, "extension");
-    assert_eq!(rt; read(rt.alloc(), "eee")?, "extension");
-    assert_eq!(rt; read(rt.alloc(), "xex=x")?, "declaration");
-    assert_eq!(rt; read(rt.alloc(), "xe=x")?, "declaration");
-    assert_eq!(rt; read(rt.alloc(), "xe")?, "none");
-    assert_eq!(rt; read(rt.alloc(), "qex")?, "none");
-    assert_eq!(rt; read(rt.alloc(), "xeC")?, "none");
-    Ok(())
-}
-
-#[test]
-fn other_declarations(rt: HostRuntime) -> Result<(), Fail> {
-    assert_eq!(rt; read(rt.alloc(), "xx=x")?, "declaration");
-    assert_eq!(rt; read(rt.alloc(), "x,x#x-x")?, "declaration");
-    assert_eq!(rt; read(rt.alloc(), "I5+")?, "declaration");
-    assert_eq!(rt; read(rt.alloc(), "x")?, "none");
-    assert_eq!(rt; read(rt.alloc(), "=x")?, "none");
-    assert_eq!(rt; read(rt.alloc(), "")?, "none");
+fn declarations_have_forms(rt: HostRuntime) -> Result<(), Fail> {
+    for (want, texts) in FORMS {
+        agree(&rt, rt.alloc(), want, texts)?;
+    }
     Ok(())
 }

@@ -1,7 +1,7 @@
 // Depths that were counted by hand, and texts whose laid tokens are those of trees in `proofs/Examples.antt`.
-use gh_base::{ListOf, NameId, Names, Span};
+use gh_base::{ListOf, NameId, Names, NoMemory, Span};
 use gh_layout::lay;
-use gh_lexer::lex;
+use gh_lexer::{Token, lex};
 use gh_tree::{
     Aexp, BlockMark, Decl, Exp, FunLhs, Item, Kind, ModuleTree, Name, NextItem, Operand,
     OperandList, Rhs, Sym, Top, Var, Where, header_depth, header_end, item_end, syms_of,
@@ -26,7 +26,7 @@ fn name(id: u32) -> Name {
 }
 
 // One operand, as an expression.
-fn alone(alloc: Global, head: Aexp, args: ListOf<Aexp>) -> Result<Exp, AllocError> {
+fn alone(alloc: Global, head: Aexp, args: ListOf<Aexp>) -> Result<Exp, NoMemory> {
     let first = Operand::Apply(HERE, Boxed::new(alloc, head)?, args);
     let list = OperandList {
         span: HERE,
@@ -42,7 +42,7 @@ fn variable(id: u32) -> Aexp {
 }
 
 // The file of one declaration, `x = ` and this expression.
-fn file(alloc: Global, body: Exp) -> Result<ModuleTree, AllocError> {
+fn file(alloc: Global, body: Exp) -> Result<ModuleTree, NoMemory> {
     let left = FunLhs::Prefix(HERE, Var::Word(name(200)), ListOf::new(alloc));
     let decl = Decl::Function(HERE, left, Rhs::Plain(HERE, HERE, body, Where::Absent));
     Ok(ModuleTree {
@@ -55,43 +55,44 @@ fn file(alloc: Global, body: Exp) -> Result<ModuleTree, AllocError> {
     })
 }
 
-// Item, top, declaration, right side, expression, operands, operand and variable: eight nodes.
-#[test]
-fn a_variable_has_depth_eight(rt: HostRuntime) -> Result<(), Fail> {
-    let alloc = rt.alloc();
-    let tree = file(alloc, alone(alloc, variable(201), ListOf::new(alloc))?)?;
-    assert_eq!(rt; tree.depth(), 8);
-    assert_eq!(rt; tree.first.depth(), 8);
-    assert_eq!(rt; header_depth(&tree.header), 0);
-    Ok(())
-}
-
-// A pair of parentheses adds four.
-#[test]
-fn parentheses_add_four(rt: HostRuntime) -> Result<(), Fail> {
-    let alloc = rt.alloc();
-    let inner = alone(alloc, variable(201), ListOf::new(alloc))?;
-    let outer = alone(
-        alloc,
-        Aexp::Paren(HERE, HERE, inner, HERE),
-        ListOf::new(alloc),
-    )?;
-    assert_eq!(rt; file(alloc, outer)?.depth(), 12);
-    Ok(())
-}
-
-// An operand with three arguments weighs three.
-#[test]
-fn arguments_add_their_number(rt: HostRuntime) -> Result<(), Fail> {
-    let alloc = rt.alloc();
+// The file `x = ` and an operand with so many arguments, between so many pairs of parentheses.
+fn nested(alloc: Global, pairs: u32, arguments: u32) -> Result<ModuleTree, NoMemory> {
     let mut args = ListOf::new(alloc);
-    args.push(variable(1))?;
-    args.push(variable(2))?;
-    args.push(variable(3))?;
-    assert_eq!(rt;
-        file(alloc, alone(alloc, variable(201), args)?)?.depth(),
-        10
-    );
+    for id in 0..arguments {
+        args.push(variable(id))?;
+    }
+    let mut body = alone(alloc, variable(201), args)?;
+    for _ in 0..pairs {
+        body = alone(
+            alloc,
+            Aexp::Paren(HERE, HERE, body, HERE),
+            ListOf::new(alloc),
+        )?;
+    }
+    file(alloc, body)
+}
+
+// The depths of a file, its first item and its header.
+fn depths(alloc: Global, pairs: u32, arguments: u32) -> Result<(u32, u32, u32), NoMemory> {
+    let tree = nested(alloc, pairs, arguments)?;
+    Ok((tree.depth(), tree.first.depth(), header_depth(&tree.header)))
+}
+
+#[test]
+fn depths_are_those_of_the_longest_path(rt: HostRuntime) -> Result<(), Fail> {
+    for (pairs, arguments, want) in [
+        // Item, top, declaration, right side, expression, operands, operand and variable: eight nodes.
+        (0, 0, 8),
+        // A pair of parentheses adds four.
+        (1, 0, 12),
+        // An operand with three arguments weighs three.
+        (0, 3, 10),
+    ] {
+        assert!(rt;
+            depths(rt.alloc(), pairs, arguments)? == (want, want, 0),
+            "{pairs} {arguments}"
+        );
+    }
     Ok(())
 }
 
@@ -122,13 +123,19 @@ fn laid_out(rt: &impl Abort, alloc: Global, text: &[u8]) -> Result<ListOf<Sym>, 
     let mut names = Names::new(alloc)?;
     match lex(alloc, &mut names, 1, text) {
         Err(_) => Ok(ListOf::new(alloc)),
-        Ok(tokens) => {
-            assert!(rt; tokens.as_slice().len() < 100);
-            match lay(alloc, &tokens) {
-                Err(_) => Ok(ListOf::new(alloc)),
-                Ok(laid) => Ok(syms_of(alloc, &tokens, &laid)?),
-            }
-        }
+        Ok(tokens) => laid_tokens(rt, alloc, &tokens),
+    }
+}
+
+fn laid_tokens(
+    rt: &impl Abort,
+    alloc: Global,
+    tokens: &ListOf<Token>,
+) -> Result<ListOf<Sym>, Fail> {
+    assert!(rt; tokens.as_slice().len() < 100);
+    match lay(alloc, tokens) {
+        Err(_) => Ok(ListOf::new(alloc)),
+        Ok(laid) => Ok(syms_of(alloc, tokens, &laid)?),
     }
 }
 
@@ -154,47 +161,58 @@ fn word(kind: &Kind) -> &'static str {
     }
 }
 
-fn agrees(rt: &impl Abort, alloc: Global, text: &[u8], want: &str) -> Result<(), Fail> {
-    let mut shown = format!(in alloc; "")?;
-    for sym in laid_out(rt, alloc, text)?.as_slice() {
-        let (from, to) = (sym.span.from, sym.span.to);
-        let next = format!(in alloc; "{}{}-{} ", word(&sym.kind), from, to)?;
-        shown.push_str(&next)?;
+// Laid tokens as text, a space behind each.
+fn shown(alloc: Global, syms: &[Sym]) -> Result<String, AllocError> {
+    let mut text = String::new(alloc);
+    for sym in syms {
+        let next = format!(in alloc; "{}{}-{} ", word(&sym.kind), sym.span.from, sym.span.to)?;
+        text.push_str(&next)?;
     }
-    assert_eq!(rt; shown.trim_end(), want);
+    Ok(text)
+}
+
+fn shown_text(rt: &impl Abort, alloc: Global, text: &str) -> Result<String, Fail> {
+    let syms = laid_out(rt, alloc, text.as_bytes())?;
+    Ok(shown(alloc, syms.as_slice())?)
+}
+
+const LAID: &[(&str, &str)] = &[
+    // A binding, as `decl_1` prints it.
+    ("x=1", "<{0-0 variable0-1 =1-2 one2-3 <}0-0"),
+    // A binding of a pattern, as `decl_2` prints it.
+    (
+        "(x,y)=e",
+        "<{0-0 (0-1 variable1-2 ,2-3 variable3-4 )4-5 =5-6 variable6-7 <}0-0",
+    ),
+    // A `case` with two alternatives, the second with a guard, behind a left side.
+    (
+        "f=case x of\n  C y->y\n  _|a->b\n",
+        "<{0-0 variable0-1 =1-2 case2-6 variable7-8 of9-11 <{0-0 constructor14-15 variable16-17 ->17-19 variable19-20 <;0-0 _23-24 |24-25 variable25-26 ->26-28 variable28-29 <}0-0 <}0-0",
+    ),
+    // An empty file, as `module_0` prints it.
+    ("", "<{0-0 <}0-0"),
+];
+
+#[test]
+fn texts_are_laid_out(rt: HostRuntime) -> Result<(), Fail> {
+    for (text, want) in LAID {
+        assert!(rt;
+            shown_text(&rt, rt.alloc(), text)?.trim_end() == *want,
+            "{text}"
+        );
+    }
     Ok(())
 }
 
-// A binding, as `decl_1` prints it.
-#[test]
-fn a_binding_is_laid_out(rt: HostRuntime) -> Result<(), Fail> {
-    let want = "<{0-0 variable0-1 =1-2 one2-3 <}0-0";
-    agrees(&rt, rt.alloc(), b"x=1", want)
-}
-
-// A binding of a pattern, as `decl_2` prints it.
-#[test]
-fn a_pattern_is_laid_out(rt: HostRuntime) -> Result<(), Fail> {
-    let want = "<{0-0 (0-1 variable1-2 ,2-3 variable3-4 )4-5 =5-6 variable6-7 <}0-0";
-    agrees(&rt, rt.alloc(), b"(x,y)=e", want)
-}
-
-// A `case` with two alternatives, the second with a guard, behind a left side.
-#[test]
-fn alternatives_are_laid_out(rt: HostRuntime) -> Result<(), Fail> {
-    let text = b"f=case x of\n  C y->y\n  _|a->b\n";
-    let head = "<{0-0 variable0-1 =1-2 case2-6 variable7-8 of9-11 <{0-0 constructor14-15";
-    let tail =
-        "variable16-17 ->17-19 variable19-20 <;0-0 _23-24 |24-25 variable25-26 ->26-28 variable28-29 <}0-0 <}0-0";
-    let alloc = rt.alloc();
-    let want = format!(in alloc; "{} {}", head, tail)?;
-    agrees(&rt, alloc, text, want.as_str())
-}
-
-// An empty file, as `module_0` prints it.
-#[test]
-fn an_empty_file_is_laid_out(rt: HostRuntime) -> Result<(), Fail> {
-    agrees(&rt, rt.alloc(), b"", "<{0-0 <}0-0")
+// How many tokens a file has, those of its header, and those of the items behind four and eight tokens.
+fn ends(rt: &impl Abort, syms: &[Sym]) -> (usize, usize, usize, usize) {
+    assert!(rt; syms.len() == 19);
+    (
+        syms.len(),
+        header_end(syms),
+        item_end(&syms[4..]),
+        item_end(&syms[8..]),
+    )
 }
 
 // `module M where <{ x = 1 <; y = case x of <{ C -> 2 <} <}`: three tokens, then three, then ten.
@@ -202,10 +220,6 @@ fn an_empty_file_is_laid_out(rt: HostRuntime) -> Result<(), Fail> {
 fn items_end_at_the_marks_of_the_body(rt: HostRuntime) -> Result<(), Fail> {
     let text = b"module M where\nx=1\ny=case x of\n  C->2\n";
     let laid = laid_out(&rt, rt.alloc(), text)?;
-    let syms = laid.as_slice();
-    assert_eq!(rt; syms.len(), 19);
-    assert_eq!(rt; header_end(syms), 3);
-    assert_eq!(rt; item_end(&syms[4..]), 3);
-    assert_eq!(rt; item_end(&syms[8..]), 10);
+    assert!(rt; ends(&rt, laid.as_slice()) == (19, 3, 3, 10));
     Ok(())
 }

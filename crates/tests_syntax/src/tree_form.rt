@@ -37,23 +37,40 @@ fn alone(alloc: Global, head: Aexp, span: Span) -> Result<gh_tree::Operand, NoMe
     Ok(gh_tree::Operand::Apply(span, Boxed::new(alloc, head)?, ListOf::new(alloc)))
 }
 
-fn variable(alloc: Global, name: Name) -> Result<gh_tree::Operand, NoMemory> {
-    Ok(alone(alloc, Aexp::Var(Var::Word(name)), name.span)?)
-}
-
 // `"a"`
 fn text(alloc: Global, span: Span) -> Result<gh_tree::Operand, NoMemory> {
     let chars = ListOf::from_slice(alloc, &['a'])?;
     Ok(alone(alloc, Aexp::Str(span, chars), span)?)
 }
 
+// What a letter stands for.
+fn id_of(letter: u8) -> NameId {
+    match letter {
+        b'm' => MAIN,
+        b'M' => MAIN_MODULE,
+        b'+' => APPEND,
+        b'.' => COMPOSE,
+        _ => X,
+    }
+}
+
+// A variable; `q` is `Main.x`.
+fn operand(alloc: Global, letter: u8, begin: u8) -> Result<gh_tree::Operand, NoMemory> {
+    let mut name = name(id_of(letter), begin, 4);
+    if letter == b'q' {
+        name.qualifier = Some(MAIN_MODULE);
+    }
+    let span = name.span;
+    alone(alloc, Aexp::Var(Var::Word(name)), span)
+}
+
 // `"a" op last`
-fn sum(alloc: Global, begin: u8, op: NameId, last: Name) -> Result<Exp, NoMemory> {
+fn sum(alloc: Global, begin: u8, op: u8, last: u8) -> Result<Exp, NoMemory> {
     let mut others = ListOf::new(alloc);
     others.push(NextOperand {
-        op: Op::Var(VarOp::Symbol(name(op, begin, 3))),
+        op: Op::Var(VarOp::Symbol(name(id_of(op), begin, 3))),
         minus: None,
-        operand: variable(alloc, last)?,
+        operand: operand(alloc, last, begin)?,
     })?;
     let list = OperandList {
         span: tokens(begin, 2, 3),
@@ -65,13 +82,7 @@ fn sum(alloc: Global, begin: u8, op: NameId, last: Name) -> Result<Exp, NoMemory
 }
 
 // `bound = "a" op last`, which is five tokens.
-fn binding(
-    alloc: Global,
-    bound: NameId,
-    begin: u8,
-    op: NameId,
-    last: Name,
-) -> Result<Item, NoMemory> {
+fn binding(alloc: Global, begin: u8, bound: u8, op: u8, last: u8) -> Result<Decl, NoMemory> {
     let body = sum(alloc, begin, op, last)?;
     let right = Rhs::Plain(
         tokens(begin, 1, 4),
@@ -81,11 +92,34 @@ fn binding(
     );
     let left = FunLhs::Prefix(
         tokens(begin, 0, 1),
-        Var::Word(name(bound, begin, 0)),
+        Var::Word(name(id_of(bound), begin, 0)),
         ListOf::new(alloc),
     );
-    let decl = Decl::Function(tokens(begin, 0, 5), left, right);
-    Ok(Item::Top(Boxed::new(alloc, Top::Decl(decl))?))
+    Ok(Decl::Function(tokens(begin, 0, 5), left, right))
+}
+
+// `import x`
+fn import() -> Import {
+    Import {
+        span: tokens(11, 0, 2),
+        mark: tokens(11, 0, 1),
+        qualified: None,
+        name: name(X, 12, 0),
+        alias: None,
+        list: None,
+    }
+}
+
+// The binding of three letters, `import x` for one, and an empty item for none.
+fn item(alloc: Global, begin: u8, letters: &str) -> Result<Item, NoMemory> {
+    match letters.as_bytes() {
+        [bound, op, last] => {
+            let decl = binding(alloc, begin, *bound, *op, *last)?;
+            Ok(Item::Top(Boxed::new(alloc, Top::Decl(decl))?))
+        }
+        [_] => Ok(Item::Import(Boxed::new(alloc, import())?)),
+        _ => Ok(Item::Empty),
+    }
 }
 
 // `module name where`
@@ -99,13 +133,8 @@ fn header(id: NameId) -> Header {
     }
 }
 
-// A file of two items with an empty one between them, behind three tokens of a header. The bytes of the file play no part.
-fn file(
-    alloc: Global,
-    header: Option<Header>,
-    first: Item,
-    last: Item,
-) -> Result<ModuleTree, NoMemory> {
+// An empty item and another one, each behind a `;`.
+fn others(alloc: Global, last: &str) -> Result<ListOf<NextItem>, NoMemory> {
     let mut others = ListOf::new(alloc);
     others.push(NextItem {
         mark: BlockMark::Written(tokens(9, 0, 1)),
@@ -113,38 +142,26 @@ fn file(
     })?;
     others.push(NextItem {
         mark: BlockMark::Written(tokens(10, 0, 1)),
-        item: last,
+        item: item(alloc, 11, last)?,
     })?;
+    Ok(others)
+}
+
+// A file of two items with an empty one between them, behind three tokens of a header, which may lack. The bytes of the
+// file play no part.
+fn tree(alloc: Global, module: &str, first: &str, last: &str) -> Result<ModuleTree, NoMemory> {
+    let others = others(alloc, last)?;
     Ok(ModuleTree {
         span: tokens(0, 0, 17),
-        header,
+        header: match module.as_bytes() {
+            [letter] => Some(header(id_of(*letter))),
+            _ => None,
+        },
         open: BlockMark::Written(tokens(3, 0, 1)),
-        first,
+        first: item(alloc, 4, first)?,
         others,
         close: BlockMark::Written(tokens(16, 0, 1)),
     })
-}
-
-// Whether a file is refused with the bytes of so many tokens from a place on.
-fn is_bad(parsed: &Parsed, begin: u8, count: u8) -> bool {
-    match parsed {
-        Parsed::Bad(span) => *span == tokens(begin, 0, count),
-        Parsed::Program(_) => false,
-    }
-}
-
-fn is_name(operand: &Operand, wanted: NameId, place: Span) -> bool {
-    match operand {
-        Operand::Name(name, span) => *name == wanted && *span == place,
-        Operand::Text(_) => false,
-    }
-}
-
-fn is_a(operand: &Operand) -> bool {
-    match operand {
-        Operand::Text(chars) => chars.as_slice() == ['a'].as_slice(),
-        Operand::Name(..) => false,
-    }
 }
 
 // The bindings `main = "a" ++ x` and `x = "a" ++ main`.
@@ -162,84 +179,96 @@ fn is_pair(bindings: &Bindings) -> bool {
     }
 }
 
-fn is_sum(operands: &[Operand], name: NameId, place: Span) -> bool {
+// The operands of `"a" ++ name`.
+fn is_sum(operands: &[Operand], wanted: NameId, place: Span) -> bool {
     match operands {
-        [first, last] => is_a(first) && is_name(last, name, place),
+        [Operand::Text(chars), Operand::Name(name, span)] => {
+            chars.as_slice() == ['a'].as_slice() && *name == wanted && *span == place
+        }
         _ => false,
     }
 }
 
-fn is_program(parsed: &Parsed) -> bool {
-    match parsed {
-        Parsed::Bad(_) => false,
-        Parsed::Program(bindings) => {
+// Whether a file is refused with the bytes of so many tokens from a place on, or has the pair of bindings.
+fn is_answer(parsed: &Parsed, refused: &Option<(u8, u8)>) -> bool {
+    match (parsed, refused) {
+        (Parsed::Bad(span), Some((begin, count))) => *span == tokens(*begin, 0, *count),
+        (Parsed::Program(bindings), None) => {
             is_pair(bindings) && bindings.has(MAIN) && bindings.has(X) && !bindings.has(PRELUDE)
         }
+        _ => false,
     }
 }
 
-// `module Main where { main = "a" ++ x ; ; x = "a" ++ main }`, and the same without its header.
-#[test]
-fn bindings_are_taken_out(rt: HostRuntime) -> Result<(), Fail> {
-    let alloc = rt.alloc();
-    let first = binding(alloc, MAIN, 4, APPEND, name(X, 8, 0))?;
-    let last = binding(alloc, X, 11, APPEND, name(MAIN, 15, 0))?;
-    let tree = file(alloc, Some(header(MAIN_MODULE)), first, last)?;
-    assert!(rt; is_program(&form(alloc, &tree)?));
-    let first = binding(alloc, MAIN, 4, APPEND, name(X, 8, 0))?;
-    let last = binding(alloc, X, 11, APPEND, name(MAIN, 15, 0))?;
-    let tree = file(alloc, None, first, last)?;
-    assert!(rt; is_program(&form(alloc, &tree)?));
-    Ok(())
+// The letters of a header's name and of two items, and the place and the number of the tokens that are refused, if any.
+struct File {
+    module: &'static str,
+    first: &'static str,
+    last: &'static str,
+    refused: Option<(u8, u8)>,
 }
 
-// A header of another name.
-#[test]
-fn another_module_is_refused(rt: HostRuntime) -> Result<(), Fail> {
-    let alloc = rt.alloc();
-    let tree = file(alloc, Some(header(X)), Item::Empty, Item::Empty)?;
-    assert!(rt; is_bad(&form(alloc, &tree)?, 0, 3));
-    Ok(())
+fn agrees(alloc: Global, file: &File) -> Result<bool, NoMemory> {
+    let tree = tree(alloc, file.module, file.first, file.last)?;
+    let parsed = form(alloc, &tree)?;
+    Ok(is_answer(&parsed, &file.refused))
 }
 
-// `main = "a" ++ x ; ; main = "a" ++ x`
-#[test]
-fn a_second_binding_is_refused(rt: HostRuntime) -> Result<(), Fail> {
-    let alloc = rt.alloc();
-    let first = binding(alloc, MAIN, 4, APPEND, name(X, 8, 0))?;
-    let last = binding(alloc, MAIN, 11, APPEND, name(X, 15, 0))?;
-    let tree = file(alloc, None, first, last)?;
-    assert!(rt; is_bad(&form(alloc, &tree)?, 11, 5));
-    Ok(())
-}
+const FILES: &[File] = &[
+    // `module Main where { main = "a" ++ x ; ; x = "a" ++ main }`
+    File {
+        module: "M",
+        first: "m+x",
+        last: "x+m",
+        refused: None,
+    },
+    // The same without its header.
+    File {
+        module: "",
+        first: "m+x",
+        last: "x+m",
+        refused: None,
+    },
+    // A header of another name.
+    File {
+        module: "x",
+        first: "",
+        last: "",
+        refused: Some((0, 3)),
+    },
+    // A second binding: `main = "a" ++ x ; ; main = "a" ++ x`
+    File {
+        module: "",
+        first: "m+x",
+        last: "m+x",
+        refused: Some((11, 5)),
+    },
+    // `main = "a" ++ Main.x` and `x = "a" . x`: the first is refused.
+    File {
+        module: "",
+        first: "m+q",
+        last: "x.x",
+        refused: Some((4, 5)),
+    },
+    // `import x`, behind an empty item.
+    File {
+        module: "",
+        first: "",
+        last: "i",
+        refused: Some((11, 2)),
+    },
+];
 
-// `main = "a" ++ M.x` and `x = "a" . x`: the first is refused.
 #[test]
-fn a_qualified_name_is_refused(rt: HostRuntime) -> Result<(), Fail> {
-    let alloc = rt.alloc();
-    let mut other = name(X, 8, 0);
-    other.qualifier = Some(MAIN_MODULE);
-    let first = binding(alloc, MAIN, 4, APPEND, other)?;
-    let last = binding(alloc, X, 11, COMPOSE, name(X, 15, 0))?;
-    let tree = file(alloc, None, first, last)?;
-    assert!(rt; is_bad(&form(alloc, &tree)?, 4, 5));
-    Ok(())
-}
-
-// `import x`, behind an empty item.
-#[test]
-fn an_import_is_refused(rt: HostRuntime) -> Result<(), Fail> {
-    let alloc = rt.alloc();
-    let import = Import {
-        span: tokens(11, 0, 2),
-        mark: tokens(11, 0, 1),
-        qualified: None,
-        name: name(X, 12, 0),
-        alias: None,
-        list: None,
-    };
-    let last = Item::Import(Boxed::new(alloc, import)?);
-    let tree = file(alloc, None, Item::Empty, last)?;
-    assert!(rt; is_bad(&form(alloc, &tree)?, 11, 2));
+fn files_have_forms(rt: HostRuntime) -> Result<(), Fail> {
+    for file in FILES {
+        assert!(rt;
+            agrees(rt.alloc(), file)?,
+            "{} {} {}",
+            file.module,
+            file.first,
+            file.last
+        );
+    }
     Ok(())
 }
