@@ -1,4 +1,7 @@
-"""Times of genhs and of its phases at doubling sizes: the best of three runs each, in milliseconds."""
+"""Times of genhs and of its phases at doubling sizes: the best of three runs each, in milliseconds.
+
+Each run has the status that it is to end with; a run that ends with another one stops the whole.
+"""
 import os
 import random
 import subprocess
@@ -11,23 +14,31 @@ BENCH = os.path.join(top, "crates/gh_bench/out/gh_bench")
 MACHINE = os.path.join(top, "crates/bench_machine/out/bench_machine")
 
 
-def best(command):
+# What the program ends with: an end, a refusal, a budget that is used up.
+ENDED, REFUSED, OUT_OF_STEPS = 0, 1, 3
+
+
+def best(command, status=ENDED):
+    """The least time of three runs, each of which is to end with that status."""
     times = []
     for _ in range(3):
         begin = time.perf_counter()
-        subprocess.run(command, stdout=subprocess.DEVNULL, stderr=subprocess.DEVNULL, check=False)
+        run = subprocess.run(command, stdout=subprocess.DEVNULL, stderr=subprocess.PIPE, check=False)
         times.append(time.perf_counter() - begin)
+        if run.returncode != status:
+            said = run.stderr.decode(errors="replace").strip()
+            sys.exit(f"bench: status {run.returncode} in the place of {status}: {' '.join(command)}: {said}")
     return 1000 * min(times)
 
 
-def table(title, unit, sizes, make, command):
+def table(title, unit, sizes, make, command, status=ENDED):
     print(title)
     before = None
     for size in sizes:
         path = os.path.join(work, "bench.hs")
         with open(path, "wb") as file:
             file.write(make(size))
-        ms = best(command(path, size))
+        ms = best(command(path, size), status)
         cost = "" if before is None else f"   x {ms / before:.2f}"
         print(f"  {size:>9} {unit}  {ms:9.1f} ms{cost}")
         before = ms
@@ -74,10 +85,10 @@ def elements(size):
     return b"x = [" + b", ".join([b"y"] * size) + b"]"
 
 
-table("a check by the whole grammar, declarations", "bytes", KIB, declarations, lambda path, size: [GENHS, "check", path])
+table("a check by the whole grammar, declarations", "bytes", KIB, declarations, lambda path, size: [GENHS, "check", path], REFUSED)
 TENS = [12500 * 2 ** k for k in range(4)]
-table("a check by the whole grammar, one expression", "operands", TENS, operands, lambda path, size: [GENHS, "check", path])
-table("a check by the whole grammar, one list", "elements", TENS, elements, lambda path, size: [GENHS, "check", path])
+table("a check by the whole grammar, one expression", "operands", TENS, operands, lambda path, size: [GENHS, "check", path], REFUSED)
+table("a check by the whole grammar, one list", "elements", TENS, elements, lambda path, size: [GENHS, "check", path], REFUSED)
 
 # A file of one item that nests so deep. Its check refuses it by 9, since no phase is built for its form, or by 10, where it is too
 # deep.
@@ -168,7 +179,7 @@ with open(endless, "w") as file:
     file.write('module Main where { main = "ab" ++ main }\n')
 for steps in (250000, 500000, 1000000, 2000000):
     run = [GENHS, "run", "--steps", str(steps), endless]
-    ms = best(run)
+    ms = best(run, OUT_OF_STEPS)
     print(f"  {steps:>9} reductions  {ms:9.1f} ms   {steps / ms / 1000:6.2f} million a second   {peak(run) / 2 ** 20:8.1f} MiB")
 print()
 

@@ -1,3 +1,4 @@
+pub mod FixedConstants
 pub mod FixedTexts
 pub mod Places
 pub mod Texts

@@ -7,7 +7,7 @@ use Rattle.std.specs.Str.{bytes_eq}
 use Rattle.std.specs.declared.alloc.Global.{Global}
 use Rattle.std.specs.declared.vec.Vec.{Vec}
 use Rattle.gh_base.specs.Table.{has_text, with_text, place_of, IsGrown}
-use Rattle.gh_base.proofs.Texts.{texts}
+use Rattle.gh_base.specs.Stored.{texts}
 
 abbrev choice : Bool → Option ℕ → Option ℕ
 choice b rest = if b then Some 0 else option_map (λ i. suc i) rest

@@ -1,5 +1,5 @@
 -- The set behind a table of names, as its list of texts.
-use Rattle.std.proofs.Common.{◌≡◌, get_or, ℕ, Bool, true, false, ◌||◌, List, [], ◌∷◌, ◌++◌, length, map, slice_get, Some, option_map, refl, sym, ap, suc, length-append, ◌∙◌, arith, if◌then◌else◌}
+use Rattle.std.proofs.Common.{◌≡◌, get_or, ℕ, Bool, true, false, ◌||◌, List, [], ◌∷◌, ◌++◌, length, slice_get, Some, option_map, refl, sym, ap, suc, length-append, ◌∙◌, arith, if◌then◌else◌}
 use Rattle.std.proofs.Math.Seq.{get_or-append_seam}
 use Rattle.std.proofs.lemmas.List.Quantifiers.{position-Some}
 use Rattle.std.proofs.lemmas.Option.{slice_get-get_or, slice_get-map}
@@ -9,10 +9,8 @@ use Rattle.std.specs.Str.{bytes_eq}
 use Rattle.std.specs.declared.alloc.Global.{Global}
 use Rattle.std.specs.declared.vec.Vec.{Vec}
 use Rattle.indexmap.specs.IndexSet.{insert_key}
+use Rattle.gh_base.specs.Stored.{texts}
 use Rattle.gh_base.specs.Table.{has_text, with_text}
-
-abbrev pub texts : List (Vec ℕ Global) → List (List ℕ)
-texts ks = map (λ v. v.items) ks
 
 pub any_texts : (t : List ℕ) (ks : List (Vec ℕ Global)) → list_any (λ k. bytes_eq t k.items) ks ≡ has_text (texts ks) t
 any_texts t [] = refl

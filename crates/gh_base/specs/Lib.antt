@@ -1,4 +1,5 @@
 pub mod Fixed
+pub mod FixedNames
 pub mod Ids
 pub mod Refusals
 pub mod Stored

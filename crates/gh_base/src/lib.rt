@@ -2,6 +2,7 @@
 #![tactic(auto)]
 
 pub mod fixed;
+mod laws;
 mod list_of;
 mod names;
 mod no_memory;
@@ -9,6 +10,7 @@ mod place;
 mod refusal;
 
 pub use fixed::FIXED;
+pub use laws::constants_name_their_words;
 pub use list_of::{Bytes, ListOf};
 pub use names::{NameId, Names};
 pub use no_memory::NoMemory;

@@ -2,6 +2,7 @@
 ghost use Rattle.std.specs.Prelude.{◌≡◌, ℕ, ◌<◌, ◌≤◌, ◌^◌, Some, slice_get, length, map, [], IfOk, OnOk, OnErr};
 ghost use Rattle.gh_base.specs.Fixed.{fixed_texts};
 ghost use Rattle.gh_base.specs.Ids.{text_in};
+ghost use Rattle.gh_base.specs.Stored.{texts};
 ghost use Rattle.gh_base.specs.Table.{with_text, with_all, place_of, IsGrown};
 
 use crate::fixed::FIXED;
@@ -36,40 +37,63 @@ impl Model for Names {
 // The most names that a table may hold: as many as there are numbers.
 const LIMIT: usize = 1 << 32;
 
+// Adds a text to the set of a table where it is new, and says where it stands.
+fn add_text(alloc: Global, set: &mut IndexSet<Vec<u8>>, text: &[u8]) -> Result<NameId, NoMemory>
+    requires { length set.old.keys ≤ 2 ^ 32 }
+    ensures table { OnOk result (texts set.new.keys ≡ with_text (texts set.old.keys) text.now) }
+    ensures place { IfOk result (λ id. place_of (texts set.new.keys) text.now ≡ Some id.0) }
+    ensures found { IfOk result (λ id. slice_get (texts set.new.keys) id.0 ≡ Some text.now) }
+    ensures few { length set.new.keys ≤ 2 ^ 32 }
+    ensures err { OnErr result (set.new.keys ≡ set.old.keys) }
+{
+    if let Some(at) = set.get_index_of(text) {
+        return Ok(NameId(at as u32));
+    }
+    let at = set.len();
+    if at >= LIMIT {
+        return Err(NoMemory);
+    }
+    let owned = text.to_vec(alloc)?;
+    set.insert(owned)?;
+    Ok(NameId(at as u32))
+}
+
+// Adds these texts one after another.
+fn add_all(alloc: Global, set: &mut IndexSet<Vec<u8>>, all: &[&[u8]]) -> Result<(), NoMemory>
+    requires { length set.old.keys ≤ 2 ^ 32 }
+    ensures table { OnOk result (texts set.new.keys ≡ with_all (texts set.old.keys) (map (λ t. t.now) all.now)) }
+    ensures few { length set.new.keys ≤ 2 ^ 32 }
+{
+    for text in all {
+        add_text(alloc, set, text)?;
+    }
+    Ok(())
+}
+
+// The set of a table that has the fixed texts alone.
+fn fixed_set(alloc: Global) -> Result<IndexSet<Vec<u8>>, NoMemory>
+    ensures table { IfOk result (λ set. texts set.keys ≡ fixed_texts) }
+    ensures few { IfOk result (λ set. length set.keys ≤ 2 ^ 32) }
+{
+    let mut set = IndexSet::new(alloc);
+    add_all(alloc, &mut set, &FIXED)?;
+    Ok(set)
+}
+
 impl Names {
     /// A table of the fixed texts, in their order.
     pub fn new(alloc: Global) -> Result<Names, NoMemory>
         ensures { IfOk result (λ names. names ≡ fixed_texts) }
     {
-        let mut names = Names::empty(alloc);
-        names.fill_fixed()?;
-        Ok(names)
+        let texts = fixed_set(alloc)?;
+        Ok(Names { alloc, texts })
     }
 
-    fn fill_fixed(&mut self) -> Result<(), NoMemory>
-        requires { self.old ≡ [] }
-        ensures { OnOk result (self.new ≡ fixed_texts) }
+    /// Each table begins with the fixed texts, whatever was added since. It does nothing.
+    pub fn begins_with_fixed(&self)
+        ensures { IsGrown fixed_texts self.now }
     {
-        self.fill(&FIXED)?;
-        Ok(())
-    }
-
-    fn fill(&mut self, texts: &[&[u8]]) -> Result<(), NoMemory>
-        ensures { OnOk result (self.new ≡ with_all self.old (map (λ t. t.now) texts.now)) }
-    {
-        for text in texts {
-            self.intern(text)?;
-        }
-        Ok(())
-    }
-
-    fn empty(alloc: Global) -> Names
-        ensures { result ≡ [] }
-    {
-        Names {
-            alloc,
-            texts: IndexSet::new(alloc),
-        }
+        let _ = &self.texts;
     }
 
     /// The number of a text: its place in the table, at whose end it is added where it is new. A table of 2^32 names
@@ -93,19 +117,10 @@ impl Names {
         ensures table { OnOk result (self.new ≡ with_text self.old text.now) }
         ensures place { IfOk result (λ id. place_of self.new text.now ≡ Some id.0) }
         ensures found { IfOk result (λ id. slice_get self.new id.0 ≡ Some text.now) }
-        ensures most { OnOk result (length self.new ≤ 2 ^ 32) }
+        ensures most { length self.new ≤ 2 ^ 32 }
         ensures err { OnErr result (self.new ≡ self.old) }
     {
-        if let Some(at) = self.texts.get_index_of(text) {
-            return Ok(NameId(at as u32));
-        }
-        let at = self.texts.len();
-        if at >= LIMIT {
-            return Err(NoMemory);
-        }
-        let owned = text.to_vec(self.alloc)?;
-        self.texts.insert(owned)?;
-        Ok(NameId(at as u32))
+        add_text(self.alloc, &mut self.texts, text)
     }
 
     /// The text of a number of this table. It takes no memory.

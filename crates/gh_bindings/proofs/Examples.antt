@@ -11,7 +11,7 @@ use Rattle.gh_bindings.specs.declared.binding.Binding.{Binding}
 use Rattle.gh_bindings.specs.declared.binding.Operand.{Operand}
 use Rattle.gh_bindings.specs.declared.binding.Operand.TheVariants.{Name, Text}
 use Rattle.gh_bindings.specs.Core.{core_program}
-use Rattle.gh_bindings.specs.Keeps.{runs}
+use Rattle.gh_keeps.specs.Keeps.{runs}
 use Rattle.gh_bindings.specs.Meaning.{meaning}
 use Rattle.gh_bindings.proofs.Plain.{plain_program, main_plain, runs_plain}
 

@@ -8,13 +8,13 @@ use Rattle.gh_core.specs.Run.{Seen, seen, core_main}
 use Rattle.gh_core.specs.Terms as t
 use Rattle.gh_bindings.specs.declared.binding.Binding.{Binding}
 use Rattle.gh_bindings.specs.Core.{core_program}
-use Rattle.gh_bindings.specs.Keeps.{IsOver, Reaches, runs}
+use Rattle.gh_keeps.specs.Keeps.{IsOver, Reaches, runs}
 use Rattle.gh_bindings.specs.Laws.{HasNotFailed, NoneFails}
 use Rattle.gh_bindings.specs.Meaning.{definitions, main_value, meaning}
 use Rattle.gh_bindings.specs.Source as source
 use Rattle.gh_bindings.specs.Acts as model
-use Rattle.gh_bindings.proofs.Bridge.{moves, stays, by_order, runs-add, runs-still, grown_between}
-use Rattle.gh_bindings.proofs.Grows.{rises}
+use Rattle.gh_keeps.proofs.Bridge.{moves, stays, by_order, runs-add, runs-still, grown_between}
+use Rattle.gh_keeps.proofs.Rises.{rises}
 use Rattle.gh_bindings.proofs.Plain.{plain_program, main_plain}
 use Rattle.gh_bindings.proofs.Relation.{Same, same_name, same_string, same_cell, same_join, put_left, put_right, Join, Stacks, bottom, waits}
 use Rattle.gh_bindings.proofs.Keeping.{reduce, Related, related, Goes, goes_on, main_related, core_runs, core_keeps_meaning}

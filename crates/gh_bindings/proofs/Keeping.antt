@@ -1,5 +1,5 @@
 -- The core of a program of bindings keeps its meaning.
-use Rattle.std.proofs.Common.{◌≡◌, ℕ, zero, suc, ◌+◌, ◌*◌, ◌≤◌, inl, List, [], ◌∷◌, ◌++◌, map, Bool, true, false, cond, Option, Some, None, refl, sym, ap, ◌∙◌, subst, subst₂, arith}
+use Rattle.std.proofs.Common.{◌≡◌, ℕ, suc, ◌+◌, ◌*◌, ◌≤◌, inl, List, [], ◌∷◌, ◌++◌, map, Bool, true, false, cond, Option, Some, None, refl, sym, ap, ◌∙◌, subst, subst₂, arith}
 use Rattle.std.specs.Char.{encode_utf8}
 use Rattle.gh_base.specs.declared.fixed.TheConstants.{MAIN}
 use Rattle.gh_base.specs.declared.names.NameId.{NameId}
@@ -10,18 +10,19 @@ use Rattle.gh_core.specs.Run.{seen, core_main}
 use Rattle.gh_core.specs.Terms as t
 use Rattle.gh_core.specs.Reduce as core
 use Rattle.gh_core.specs.declared.terms.CoreName.TheVariants.{Plain}
-use Rattle.gh_core.proofs.Runs.{reductions_zero, reductions_first, reductions_add}
+use Rattle.gh_core.proofs.Runs.{reductions_zero, reductions_add}
 use Rattle.gh_bindings.specs.declared.binding.Binding.{Binding}
 use Rattle.gh_bindings.specs.declared.binding.Operand.{Operand}
 use Rattle.gh_bindings.specs.declared.binding.Operand.TheVariants.{Name, Text}
 use Rattle.gh_bindings.specs.Core.{core_program}
-use Rattle.gh_bindings.specs.Keeps.{Reaches, Keeps, runs}
+use Rattle.gh_keeps.specs.Keeps.{Reaches, Keeps, runs}
 use Rattle.gh_bindings.specs.Laws.{CoreKeepsMeaning, CoreGoesOn}
 use Rattle.gh_bindings.specs.Meaning.{definition, definitions, main_value, operand, joined, cell, join, meaning}
 use Rattle.gh_bindings.specs.Source as source
 use Rattle.gh_bindings.specs.Acts as model
-use Rattle.gh_bindings.proofs.Bridge.{Act, moves, stays, runs-zero, runs-suc, runs-add, reaches_on, grown_between, quiet_before, keeps}
-use Rattle.gh_bindings.proofs.Grows.{grows, rises}
+use Rattle.gh_keeps.proofs.Bridge.{Act, moves, stays, runs-add, reaches_on, grown_between, quiet_before, keeps_alike}
+use Rattle.gh_keeps.proofs.Rises.{reductions_runs, rises}
+use Rattle.gh_bindings.proofs.Grows.{grows}
 use Rattle.gh_bindings.proofs.Plain.{plain_def, plain_program, operand_plain, joined_plain, main_plain, runs_plain}
 use Rattle.gh_bindings.proofs.Plain as plain
 use Rattle.gh_bindings.proofs.Relation.{Same, same_name, same_string, same_cell, same_join, put_left, put_right, Join, first_clause, second_clause, frames, alts_at, Stacks, bottom, waits, Traced, traced_on, own_itself}
@@ -265,13 +266,8 @@ module _ (bs : List Binding) where
   -- each reduction of core is paid for by a step
   pub kept : Keeps 1 (meaning bs) (λ n. seen (runs reduce n (core.demand main_plain [] [])))
   kept =
-      keeps 1 act reduce model.seen seen Related (grows (definitions bs)) (rises (plain_program bs)) shows_same goes_on 0
+      keeps_alike 1 act reduce model.seen seen Related (grows (definitions bs)) (rises (plain_program bs)) shows_same goes_on 0
       (model.demand (source.top (main_value MAIN)) [] []) (core.demand main_plain [] []) main_related
-
--- reductions as steps
-pub reductions_runs : (p : core.Program) (n : ℕ) (s : core.State) → core.reductions p n s ≡ runs (core.reduce p) n s
-reductions_runs p zero s = reductions_zero p s ∙ sym (runs-zero (core.reduce p) s)
-reductions_runs p (suc n) s = reductions_first p n s ∙ reductions_runs p n (core.reduce p s) ∙ sym (runs-suc (core.reduce p) n s)
 
 pub core_runs : (bs : List Binding) (n : ℕ) → core_main (erased_program (core_program bs)) n ≡ seen (runs (core.reduce (plain_program bs)) n (core.demand main_plain [] []))
 core_runs bs n = runs_plain bs n ∙ ap seen (reductions_runs (plain_program bs) n (core.demand main_plain [] []))

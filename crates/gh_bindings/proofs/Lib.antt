@@ -1,4 +1,3 @@
-pub mod Bridge
 pub mod Examples
 pub mod Failing
 pub mod Grows

@@ -6,11 +6,11 @@ use Rattle.gh_core.specs.Primitives.{nil, cons}
 use Rattle.gh_core.specs.Terms as t
 use Rattle.gh_core.specs.Reduce as core
 use Rattle.gh_core.specs.declared.terms.CoreName.TheVariants.{Plain}
-use Rattle.gh_bindings.specs.Keeps.{runs}
+use Rattle.gh_keeps.specs.Keeps.{runs}
 use Rattle.gh_bindings.specs.Source as source
 use Rattle.gh_bindings.specs.Acts as model
 use Rattle.gh_bindings.specs.Meaning.{append_place, main_value, cell, join}
-use Rattle.gh_bindings.proofs.Bridge.{runs-zero, runs-add}
+use Rattle.gh_keeps.proofs.Bridge.{runs-zero, runs-add}
 use Rattle.gh_bindings.proofs.Plain as plain
 
 -- an expression and its core

@@ -5,7 +5,7 @@ use Rattle.gh_core.specs.Reduce.{Status, running, ended, failed}
 use Rattle.gh_core.specs.Run.{core_main}
 use Rattle.gh_bindings.specs.declared.binding.Binding.{Binding}
 use Rattle.gh_bindings.specs.Core.{core_program}
-use Rattle.gh_bindings.specs.Keeps.{Keeps, Reaches}
+use Rattle.gh_keeps.specs.Keeps.{Keeps, Reaches}
 use Rattle.gh_bindings.specs.Meaning.{meaning}
 
 -- the core of every program of bindings keeps its meaning within this factor, whether names are bound once, several times or not at all

@@ -12,7 +12,7 @@ use Rattle.gh_bindings.specs.declared.binding.Operand.{Operand}
 use Rattle.gh_bindings.specs.declared.binding.Operand.TheVariants.{Name, Text}
 use Rattle.gh_bindings.specs.Source.{pattern_var, pattern_con, no_pattern, and_pattern, Expression, var, top, con, string, lam, app, cases, no_argument, and_argument, Rows, no_row, row}
 use Rattle.gh_bindings.specs.Acts.{seen, demand, act}
-use Rattle.gh_bindings.specs.Keeps.{runs}
+use Rattle.gh_keeps.specs.Keeps.{runs}
 
 abbrev pub append : Origin
 append = prelude_value APPEND

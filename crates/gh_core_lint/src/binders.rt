@@ -10,9 +10,9 @@ use std::alloc::Global;
 use std::collections::HashMap;
 use std::marker::Model;
 
-// Binders, the nearest first: each a number with what is known of it. The last entry is the nearest binder. The place of
-// the nearest binder of a number is looked up in a table, to which each binder that ends gives back what its number had
-// before.
+/// Binders, the nearest first: each a number with what is known of it. The last entry is the nearest binder. The place of
+/// the nearest binder of a number is looked up in a table, to which each binder that ends gives back what its number had
+/// before.
 #[derive(Drop)]
 pub struct Binders<T> {
     entries: Vec<(u32, T, Option<usize>)>,
@@ -31,6 +31,7 @@ impl<T> Model for Binders<T> {
 }
 
 impl<T> Binders<T> {
+    /// No binder.
     pub fn new(alloc: Global) -> Binders<T>
         ensures { result ≡ [] }
     {
@@ -40,6 +41,7 @@ impl<T> Binders<T> {
         }
     }
 
+    /// How many binders there are.
     pub fn count(&self) -> usize
         ensures value { result ≡ length self.now }
         ensures most { result < 2 ^ 63 }
@@ -47,14 +49,14 @@ impl<T> Binders<T> {
         self.entries.len()
     }
 
-    // How many binders are further out than the nearest one of this number.
+    /// How many binders are further out than the nearest one of this number.
     pub fn place(&self, number: u32) -> Option<usize>
         ensures { result ≡ place_in self.now number }
     {
         self.nearest.get(&number).copied()
     }
 
-    // What is known of the binder that so many are further out than.
+    /// What is known of the binder that so many are further out than.
     pub fn at(&self, place: usize) -> Option<&T>
         ensures { option_copied result ≡ item_at self.now place }
     {
@@ -65,7 +67,7 @@ impl<T> Binders<T> {
         }
     }
 
-    // What is known of the nearest binder of this number.
+    /// What is known of the nearest binder of this number.
     pub fn of(&self, number: u32) -> Option<&T>
         ensures { option_copied result ≡ item_of self.now number }
     {
@@ -77,6 +79,8 @@ impl<T> Binders<T> {
 }
 
 impl<T: Drop> Binders<T> {
+    /// A further binder of this number becomes the nearest one. Where there is no memory for it, the binders stay as
+    /// they were.
     pub fn bind(&mut self, number: u32, item: T) -> Result<(), NoMemory>
         ensures { OnOk result (self.new ≡ (number, item) ∷ self.old) }
     {
@@ -102,7 +106,7 @@ impl<T: Drop> Binders<T> {
         }
     }
 
-    // Leaves the binders that stand outside of all others only.
+    /// Leaves the binders that stand outside of all others only.
     pub fn keep(&mut self, count: usize)
         ensures { self.new ≡ drop (length self.old - count) self.old }
     {

@@ -69,7 +69,7 @@ fn chosen<'a, 'b>(
     }
 }
 
-// The types that an alternative gives its names.
+/// The types that an alternative gives its names.
 pub fn fields_for(
     alloc: Global,
     known: &Known,
@@ -109,7 +109,7 @@ fn fits(known: &Known, scrutinee: &Type, sort: &Sort, alternative: &CoreAlt) -> 
     }
 }
 
-// Whether all alternatives fit the scrutinee.
+/// Whether all alternatives fit the scrutinee.
 pub fn all_fit(known: &Known, scrutinee: &Type, sort: &Sort, alternatives: &[CoreAlt]) -> bool
     requires { IsSeen (program_of known.now).decls (type_at scrutinee.now) sort.now }
     ensures { IsTrue result ↔ AllFit (program_of known.now) (type_at scrutinee.now) (branches_of (map alt_code alternatives.now) None) }
@@ -173,7 +173,7 @@ fn each_once(alloc: Global, cons: &[DeclCon], alternatives: &[CoreAlt]) -> Resul
     Ok(true)
 }
 
-// Whether a case without an `else` has an alternative for each constructor of its scrutinee.
+/// Whether a case without an `else` has an alternative for each constructor of its scrutinee.
 pub fn covered(
     alloc: Global,
     known: &Known,

@@ -24,7 +24,7 @@ use gh_core::{CoreAlt, CoreTerm, CoreType};
 use sqlite_items::Boxed;
 use std::alloc::Global;
 
-// The type of a term whose first node has this number.
+/// The type of a term whose first node has this number.
 #[cycle(check)]
 pub fn check(
     alloc: Global,

@@ -86,8 +86,8 @@ fn is_case(
     goes_on(alloc, known, scrutinee, sort, alternatives, otherwise)
 }
 
-// A case takes its scrutinee's type apart and gives one type of values, which it answers. `found` are the types of the
-// results, the last of them that of `else` where there is one.
+/// A case takes its scrutinee's type apart and gives one type of values, which it answers. `found` are the types of the
+/// results, the last of them that of `else` where there is one.
 pub fn case_rule(
     alloc: Global,
     known: &Known,
@@ -139,7 +139,7 @@ fn all_values(
     Ok(true)
 }
 
-// Bindings have their written types, which are types of values. `wanted` are the written types in order.
+/// Bindings have their written types, which are types of values. `wanted` are the written types in order.
 pub fn let_rule(
     alloc: Global,
     known: &Known,

@@ -14,7 +14,7 @@ use gh_base::{ListOf, NoMemory, Origin, TyCon};
 use gh_typeterm::{DeclCon, DeclData, Kind, Ty, TyNode};
 use std::alloc::Global;
 
-// What a scrutinee is: of a datatype at types for its parameters, an integer, a character, or nothing that a case takes.
+/// What a scrutinee is: of a datatype at types for its parameters, an integer, a character, or nothing that a case takes.
 #[derive(Drop)]
 pub enum Sort<'a> {
     Data(&'a DeclData, ListOf<Type>),
@@ -79,7 +79,7 @@ fn data_of<'a>(
     }
 }
 
-// Whether a type is this constructor.
+/// Whether a type is this constructor.
 pub fn is_con(ty: &Type, c: TyCon) -> bool
     ensures { IsTrue result ↔ (type_at ty.now ≡ con c) }
 {
@@ -89,7 +89,7 @@ pub fn is_con(ty: &Type, c: TyCon) -> bool
     }
 }
 
-// What a scrutinee of a type is.
+/// What a scrutinee of a type is.
 pub fn sort_of<'a>(alloc: Global, known: &Known<'a>, ty: &Type) -> Result<Sort<'a>, NoMemory>
     ensures { IfOk result (λ sort. IsSeen (program_of known.now).decls (type_at ty.now) sort) }
 {
@@ -121,7 +121,7 @@ fn index_of_name(count: usize, number: u32) -> Result<usize, NoMemory>
     plus(count, number as usize)
 }
 
-// The type of a field of a datatype with so many parameters.
+/// The type of a field of a datatype with so many parameters.
 pub fn field(alloc: Global, count: usize, ty: &Ty) -> Result<Type, NoMemory>
     ensures { IfOk result (λ made. type_at made ≡ field_type count ty.now) }
 {
@@ -184,7 +184,7 @@ fn make_data(alloc: Global, origin: Origin, count: usize) -> Result<Type, NoMemo
     Ok(made)
 }
 
-// The type of a constructor.
+/// The type of a constructor.
 pub fn type_of_con(alloc: Global, decl: &DeclData, con: &DeclCon) -> Result<Type, NoMemory>
     ensures { IfOk result (λ made. type_at made ≡ con_type (decl.now, con.now)) }
 {
@@ -219,7 +219,7 @@ fn with_types(alloc: Global, args: &[Type], ty: &Type) -> Result<Type, NoMemory>
     }
 }
 
-// The types of the fields of a constructor, where the datatype is at these types.
+/// The types of the fields of a constructor, where the datatype is at these types.
 pub fn types_of_fields(
     alloc: Global,
     decl: &DeclData,

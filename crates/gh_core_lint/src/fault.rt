@@ -65,7 +65,7 @@ fn report_all(alloc: Global, def: usize, stop: &Stop) -> Result<LintFault, NoMem
     }
 }
 
-// The fault of a stop in a definition.
+/// The fault of a stop in a definition.
 pub fn report(alloc: Global, def: usize, stop: &Stop) -> LintFault
     ensures { Reports def stop.now result }
 {

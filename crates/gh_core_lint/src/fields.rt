@@ -57,7 +57,7 @@ fn decl_fits(alloc: Global, known: &Known, decl: &DeclData) -> Result<bool, NoMe
     Ok(true)
 }
 
-// Whether the fields of all datatypes are of values.
+/// Whether the fields of all datatypes are of values.
 pub fn fields_fit(alloc: Global, known: &Known) -> Result<bool, NoMemory>
     ensures { IfOk result (λ holds. IsTrue holds ↔ DeclsFit (program_of known.now).decls (program_of known.now).decls) }
 {

@@ -25,21 +25,21 @@ use gh_typeterm::Kind;
 use sqlite_items::Boxed;
 use std::alloc::Global;
 
-// A term's type, and the number of the node after it.
+/// A term's type, and the number of the node after it.
 #[derive(Drop)]
 pub struct Typed {
     pub ty: Type,
     pub next: u32,
 }
 
-// The types of several terms, and the number of the node after them.
+/// The types of several terms, and the number of the node after them.
 #[derive(Drop)]
 pub struct Parts {
     pub types: ListOf<Type>,
     pub next: u32,
 }
 
-// The type of the term whose root has this number.
+/// The type of the term whose root has this number.
 pub fn rooted(ty: Type, root: u32) -> Result<Typed, NoMemory>
     ensures ty { IfOk result (λ made. made.ty ≡ ty) }
     ensures next { IfOk result (λ made. made.next ≡ root + 1) }
@@ -50,7 +50,7 @@ pub fn rooted(ty: Type, root: u32) -> Result<Typed, NoMemory>
     }
 }
 
-// A function, from the type of its variable to that of its body.
+/// A function, from the type of its variable to that of its body.
 pub fn lam_node(
     alloc: Global,
     known: &Known,
@@ -67,7 +67,7 @@ pub fn lam_node(
     Ok(rooted(make_arrow(alloc, from, to.ty)?, to.next)?)
 }
 
-// A function with its argument.
+/// A function with its argument.
 pub fn app_node(function: Typed, argument: Typed) -> Result<Typed, Stop>
     ensures ty { IfOk result (λ made. type_at function.ty ≡ arrow (type_at argument.ty) (type_at made.ty)) }
     ensures next { IfOk result (λ made. made.next ≡ argument.next + 1) }
@@ -77,7 +77,7 @@ pub fn app_node(function: Typed, argument: Typed) -> Result<Typed, Stop>
     Ok(rooted(ty, argument.next)?)
 }
 
-// A function of types, whose variable has this level.
+/// A function of types, whose variable has this level.
 pub fn tylam_node(alloc: Global, level: usize, kind: &Kind, body: Typed) -> Result<Typed, Stop>
     ensures ty { IfOk result (λ made. type_at made.ty ≡ forall kind.now (closed_over level 0 (type_at body.ty))) }
     ensures next { IfOk result (λ made. made.next ≡ body.next + 1) }
@@ -87,7 +87,7 @@ pub fn tylam_node(alloc: Global, level: usize, kind: &Kind, body: Typed) -> Resu
     Ok(rooted(make_forall(alloc, kind, inner)?, body.next)?)
 }
 
-// A function of types with its argument.
+/// A function of types with its argument.
 pub fn tyapp_node(
     alloc: Global,
     known: &Known,
@@ -106,7 +106,7 @@ pub fn tyapp_node(
     Ok(rooted(made, function.next)?)
 }
 
-// Bindings round a term. `wanted` are their written types in order, and `found` those of their terms.
+/// Bindings round a term. `wanted` are their written types in order, and `found` those of their terms.
 pub fn letrec_node(
     alloc: Global,
     known: &Known,
@@ -137,7 +137,7 @@ pub fn letrec_node(
     Ok(rooted(body.ty, body.next)?)
 }
 
-// A case whose scrutinee has this type, and whose results have these.
+/// A case whose scrutinee has this type, and whose results have these.
 pub fn case_node(
     alloc: Global,
     known: &Known,
@@ -171,7 +171,7 @@ pub fn case_node(
     Ok(rooted(made, found.next)?)
 }
 
-// The failure of a match, at a type.
+/// The failure of a match, at a type.
 pub fn stop_node(
     alloc: Global,
     known: &Known,

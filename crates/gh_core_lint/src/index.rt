@@ -15,7 +15,7 @@ type OriginKey = (u32, (u32, u32));
 
 type ConKey = (u32, OriginKey);
 
-// What tells names apart, part by part.
+/// What tells names apart, part by part.
 pub type Key = (u32, (OriginKey, ConKey));
 
 const NO_ORIGIN: OriginKey = (0, (0, 0));
@@ -49,7 +49,7 @@ fn con(con: TyCon) -> ConKey
     }
 }
 
-// The key of a name.
+/// The key of a name.
 pub fn key(name: CoreName) -> Key
     ensures { result ≡ key_of name }
 {
@@ -76,7 +76,7 @@ fn name_at(names: &ListOf<CoreName>, place: usize) -> CoreName
     names.as_slice()[place]
 }
 
-// Names in their order, each once, with their places.
+/// Names in their order, each once, with their places.
 #[derive(Drop)]
 pub struct Index {
     names: ListOf<CoreName>,
@@ -94,7 +94,7 @@ impl Model for Index {
 }
 
 impl Index {
-    // A table of these names; none where one of them is doubled.
+    /// A table of these names; none where one of them is doubled.
     pub fn new(alloc: Global, names: ListOf<CoreName>) -> Result<Option<Index>, NoMemory>
         ensures { IfOk result (λ made. IsIndex names made) }
     {
@@ -113,7 +113,7 @@ impl Index {
         Ok(Some(Index { names, places }))
     }
 
-    // The place of a name.
+    /// The place of a name.
     pub fn place(&self, name: CoreName) -> Option<usize>
         ensures { result ≡ first_from 0 self.now name }
     {

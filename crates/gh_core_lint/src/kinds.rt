@@ -14,8 +14,8 @@ use gh_typeterm::{Kind, copy_kind, same_kind};
 use sqlite_items::Boxed;
 use std::alloc::Global;
 
-// The kinds of the binders of a type round a part of it: those of a datatype's parameters, the last being the nearest, or
-// of a `forall`.
+/// The kinds of the binders of a type round a part of it: those of a datatype's parameters, the last being the nearest, or
+/// of a `forall`.
 #[derive(Drop)]
 pub enum Round<'a> {
     Outside,
@@ -154,7 +154,7 @@ fn kind_of(
     }
 }
 
-// Whether a type has a kind.
+/// Whether a type has a kind.
 pub fn has_kind(
     alloc: Global,
     known: &Known,
@@ -171,7 +171,7 @@ pub fn has_kind(
     }
 }
 
-// Whether a type inside type variables is of values.
+/// Whether a type inside type variables is of values.
 pub fn is_value_type(
     alloc: Global,
     known: &Known,

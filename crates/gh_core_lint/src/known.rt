@@ -11,7 +11,7 @@ use crate::types::Type;
 use gh_base::ListOf;
 use gh_typeterm::{DeclCon, DeclData};
 
-// The datatypes, constructors and definitions of a program by their names.
+/// The datatypes, constructors and definitions of a program by their names.
 #[derive(Drop)]
 pub struct Known<'a> {
     pub decls: &'a [DeclData],

@@ -20,7 +20,7 @@ use gh_core::{CoreName, CoreType};
 use gh_typeterm::Kind;
 use std::alloc::Global;
 
-// A variable.
+/// A variable.
 pub fn var_node(vars: &Binders<Option<Type>>, x: u32, node: u32) -> Result<Typed, Stop>
     ensures ty { IfOk result (λ made. t.var_type (vars_of vars.now) x ≡ Some (type_at made.ty)) }
     ensures next { IfOk result (λ made. made.next ≡ node + 1) }
@@ -30,7 +30,7 @@ pub fn var_node(vars: &Binders<Option<Type>>, x: u32, node: u32) -> Result<Typed
     Ok(rooted(ty, node)?)
 }
 
-// A definition.
+/// A definition.
 pub fn global_node(known: &Known, name: CoreName, node: u32) -> Result<Typed, Stop>
     ensures ty { IfOk result (λ made. t.global_type (program_of known.now).globals name ≡ Some (type_at made.ty)) }
     ensures next { IfOk result (λ made. made.next ≡ node + 1) }
@@ -40,7 +40,7 @@ pub fn global_node(known: &Known, name: CoreName, node: u32) -> Result<Typed, St
     Ok(rooted(ty, node)?)
 }
 
-// A constructor.
+/// A constructor.
 pub fn con_node(alloc: Global, known: &Known, con: Origin, node: u32) -> Result<Typed, Stop>
     ensures ty { IfOk result (λ made. t.con_type_of (t.con_of (program_of known.now).decls con) ≡ Some (type_at made.ty)) }
     ensures next { IfOk result (λ made. made.next ≡ node + 1) }
@@ -50,7 +50,7 @@ pub fn con_node(alloc: Global, known: &Known, con: Origin, node: u32) -> Result<
     Ok(rooted(ty, node)?)
 }
 
-// An integer.
+/// An integer.
 pub fn int_node(alloc: Global, node: u32) -> Result<Typed, Stop>
     ensures ty { IfOk result (λ made. type_at made.ty ≡ t.int_type) }
     ensures next { IfOk result (λ made. made.next ≡ node + 1) }
@@ -59,7 +59,7 @@ pub fn int_node(alloc: Global, node: u32) -> Result<Typed, Stop>
     Ok(rooted(int_type(alloc)?, node)?)
 }
 
-// A character.
+/// A character.
 pub fn char_node(alloc: Global, node: u32) -> Result<Typed, Stop>
     ensures ty { IfOk result (λ made. type_at made.ty ≡ t.char_type) }
     ensures next { IfOk result (λ made. made.next ≡ node + 1) }
@@ -68,7 +68,7 @@ pub fn char_node(alloc: Global, node: u32) -> Result<Typed, Stop>
     Ok(rooted(char_type(alloc)?, node)?)
 }
 
-// A string.
+/// A string.
 pub fn string_node(alloc: Global, node: u32) -> Result<Typed, Stop>
     ensures ty { IfOk result (λ made. type_at made.ty ≡ t.string_type) }
     ensures next { IfOk result (λ made. made.next ≡ node + 1) }
@@ -77,7 +77,7 @@ pub fn string_node(alloc: Global, node: u32) -> Result<Typed, Stop>
     Ok(rooted(string_type(alloc)?, node)?)
 }
 
-// A primitive.
+/// A primitive.
 pub fn prim_node(
     alloc: Global,
     known: &Known,

@@ -21,7 +21,7 @@ enum Foralls<'a> {
     Inside(u32, &'a Foralls<'a>),
 }
 
-// The layer of a constructor is one type for all constructors.
+/// The layer of a constructor is one type for all constructors.
 pub fn layer(c: TyCon) -> TyCon
     ensures { result ≡ layered c }
 {
@@ -105,7 +105,7 @@ fn place_under(
     }
 }
 
-// A written type, its free variables at their levels.
+/// A written type, its free variables at their levels.
 pub fn place(alloc: Global, kinds: &Binders<Kind>, ty: &CoreType) -> Result<Type, NoMemory>
     ensures { IfOk result (λ made. type_at made ≡ placed kinds.now (type_of ty.now)) }
 {

@@ -13,6 +13,7 @@ use gh_base::fixed::{
 use gh_base::{NameId, NoMemory, Origin, Space, TyCon};
 use std::alloc::Global;
 
+/// The primitives of the Prelude that core's check knows.
 #[derive(Clone, Copy)]
 pub enum Primitive {
     Error,
@@ -51,6 +52,7 @@ fn first_named(table: &[(NameId, Primitive)], origin: Origin) -> Option<Primitiv
     None
 }
 
+/// The primitive that an origin stands for, if it stands for one.
 pub fn primitive_named(origin: Origin) -> Option<Primitive>
     ensures { option_map primitive_of result ≡ p.named p.primitives origin }
 {
@@ -71,12 +73,14 @@ pub fn primitive_named(origin: Origin) -> Option<Primitive>
     first_named(&table, origin)
 }
 
+/// The type of integers.
 pub fn int_type(alloc: Global) -> Result<Type, NoMemory>
     ensures { IfOk result (λ made. type_at made ≡ t.int_type) }
 {
     make_con(alloc, TyCon::Int)
 }
 
+/// The type of characters.
 pub fn char_type(alloc: Global) -> Result<Type, NoMemory>
     ensures { IfOk result (λ made. type_at made ≡ t.char_type) }
 {
@@ -99,6 +103,7 @@ fn bool_type(alloc: Global) -> Result<Type, NoMemory>
     make_con(alloc, prelude_type(BOOL))
 }
 
+/// The type of lists of characters.
 pub fn string_type(alloc: Global) -> Result<Type, NoMemory>
     ensures { IfOk result (λ made. type_at made ≡ t.string_type) }
 {
@@ -127,7 +132,7 @@ fn character_comparison(alloc: Global) -> Result<Type, NoMemory>
     make_arrow(alloc, char_type(alloc)?, inner)
 }
 
-// The type of a primitive that has no type written with it; none for `error`.
+/// The type of a primitive that has no type written with it; none for `error`.
 pub fn type_of_primitive(alloc: Global, primitive: Primitive) -> Result<Option<Type>, NoMemory>
     ensures { IfOk result (λ made. option_map type_at made ≡ plain_type (primitive_of primitive)) }
 {

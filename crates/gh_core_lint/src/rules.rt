@@ -22,7 +22,7 @@ use gh_core::{CoreName, CoreType};
 use gh_typeterm::Kind;
 use std::alloc::Global;
 
-// Why a check stops: a rule of a node does not hold, two types differ at a node, or there is no memory.
+/// Why a check stops: a rule of a node does not hold, two types differ at a node, or there is no memory.
 #[derive(Drop)]
 pub enum Stop {
     Broken(u32),
@@ -41,7 +41,7 @@ impl From<NoMemory> for Stop {
     }
 }
 
-// A variable has a type.
+/// A variable has a type.
 pub fn var_rule(vars: &Binders<Option<Type>>, x: u32, node: u32) -> Result<Type, Stop>
     ensures ok { IfOk result (λ ty. var_type (vars_of vars.now) x ≡ Some (type_at ty)) }
     ensures err { MatchResult result (λ _. Unit {0}) (λ s. Blames s (λ f. (var_type (vars_of vars.now) x ≡ None) × (f ≡ broken node))) }
@@ -55,7 +55,7 @@ pub fn var_rule(vars: &Binders<Option<Type>>, x: u32, node: u32) -> Result<Type,
     }
 }
 
-// There is a definition of this name.
+/// There is a definition of this name.
 pub fn global_rule(known: &Known, name: CoreName, node: u32) -> Result<Type, Stop>
     ensures ok { IfOk result (λ ty. global_type (program_of known.now).globals name ≡ Some (type_at ty)) }
     ensures err { MatchResult result (λ _. Unit {0}) (λ s. Blames s (λ f. (global_type (program_of known.now).globals name ≡ None) × (f ≡ broken node))) }
@@ -66,7 +66,7 @@ pub fn global_rule(known: &Known, name: CoreName, node: u32) -> Result<Type, Sto
     }
 }
 
-// There is a constructor of this name.
+/// There is a constructor of this name.
 pub fn con_rule(alloc: Global, known: &Known, origin: Origin, node: u32) -> Result<Type, Stop>
     ensures ok { IfOk result (λ ty. con_type_of (con_of (program_of known.now).decls origin) ≡ Some (type_at ty)) }
     ensures err { MatchResult result (λ _. Unit {0}) (λ s. Blames s (λ f. (con_type_of (con_of (program_of known.now).decls origin) ≡ None) × (f ≡ broken node))) }
@@ -77,7 +77,7 @@ pub fn con_rule(alloc: Global, known: &Known, origin: Origin, node: u32) -> Resu
     }
 }
 
-// A written type is one of values.
+/// A written type is one of values.
 pub fn value_rule(
     alloc: Global,
     known: &Known,
@@ -95,7 +95,7 @@ pub fn value_rule(
     }
 }
 
-// The type of a primitive, `error` alone having its result's type written with it.
+/// The type of a primitive, `error` alone having its result's type written with it.
 pub fn prim_rule(
     alloc: Global,
     known: &Known,
@@ -141,7 +141,7 @@ fn function_parts(ty: &Type) -> Result<Option<(Type, Type)>, NoMemory>
     }
 }
 
-// An application is of a function to an argument of its type.
+/// An application is of a function to an argument of its type.
 pub fn app_rule(function: &Type, argument: &Type, node: u32) -> Result<Type, Stop>
     ensures ok { IfOk result (λ ty. type_at function.now ≡ arrow (type_at argument.now) (type_at ty)) }
     ensures err { MatchResult result (λ _. Unit {0}) (λ s. Blames s (AppFails (type_at function.now) (type_at argument.now) node)) }
@@ -159,7 +159,7 @@ pub fn app_rule(function: &Type, argument: &Type, node: u32) -> Result<Type, Sto
     }
 }
 
-// A type application is of a type function to a type of its kind.
+/// A type application is of a type function to a type of its kind.
 pub fn tyapp_rule(
     alloc: Global,
     known: &Known,
@@ -185,7 +185,7 @@ pub fn tyapp_rule(
     }
 }
 
-// Types are equal place by place.
+/// Types are equal place by place.
 pub fn equal_rule(wanted: &[Type], found: &[Type], node: u32) -> Result<(), Stop>
     requires { length wanted.now ≡ length found.now }
     ensures ok { OnOk result (map type_at wanted.now ≡ map type_at found.now) }
@@ -199,7 +199,7 @@ pub fn equal_rule(wanted: &[Type], found: &[Type], node: u32) -> Result<(), Stop
     Ok(())
 }
 
-// All types are one.
+/// All types are one.
 pub fn alike_rule(wanted: &Type, found: &[Type], node: u32) -> Result<(), Stop>
     ensures ok { OnOk result (repeated (type_at wanted.now) (map type_at found.now) ≡ map type_at found.now) }
     ensures err { MatchResult result (λ _. Unit {0}) (λ s. Blames s (FirstClash (repeated (type_at wanted.now) (map type_at found.now)) (map type_at found.now) node)) }

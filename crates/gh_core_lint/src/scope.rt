@@ -14,7 +14,7 @@ use gh_core::{CoreTerm, CoreType};
 use gh_typeterm::{Kind, copy_kind};
 use std::alloc::Global;
 
-// The variables round a term: those of types with their kinds, and the others with their types.
+/// The variables round a term: those of types with their kinds, and the others with their types.
 #[derive(Drop)]
 pub struct Scope {
     pub kinds: Binders<Kind>,
@@ -32,7 +32,7 @@ fn type_for(types: &[Type], place: usize) -> Result<Option<Type>, NoMemory>
     }
 }
 
-// Binds the names of an alternative, the first as the nearest. A name without a type has none.
+/// Binds the names of an alternative, the first as the nearest. A name without a type has none.
 pub fn bind_names(
     vars: &mut Binders<Option<Type>>,
     names: &[u32],
@@ -48,7 +48,7 @@ pub fn bind_names(
     Ok(())
 }
 
-// Places and binds the variable of a function, and answers its type.
+/// Places and binds the variable of a function, and answers its type.
 pub fn bind_lam(alloc: Global, scope: &mut Scope, x: u32, ty: &CoreType) -> Result<Type, NoMemory>
     ensures ty { IfOk result (λ from. type_at from ≡ placed scope.old.kinds (type_of ty.now)) }
     ensures bound { IfOk result (λ from. Adds ((x, Some (type_at from)) ∷ []) scope.old.vars scope.new.vars) }
@@ -59,7 +59,7 @@ pub fn bind_lam(alloc: Global, scope: &mut Scope, x: u32, ty: &CoreType) -> Resu
     Ok(from)
 }
 
-// Binds the variable of a function of types.
+/// Binds the variable of a function of types.
 pub fn bind_tylam(alloc: Global, scope: &mut Scope, x: u32, kind: &Kind) -> Result<(), NoMemory>
     ensures kinds { OnOk result (scope.new.kinds ≡ (x, kind.now) ∷ scope.old.kinds) }
     ensures vars { OnOk result (scope.new.vars ≡ scope.old.vars) }
@@ -97,7 +97,7 @@ fn place_all(
     Ok(types)
 }
 
-// Places and binds the variables of bindings, the first as the nearest, and answers their types in order.
+/// Places and binds the variables of bindings, the first as the nearest, and answers their types in order.
 pub fn bind_all(
     alloc: Global,
     scope: &mut Scope,

@@ -120,7 +120,7 @@ fn type_there(types: &[Type], place: usize) -> Result<Option<Type>, NoMemory>
 }
 
 impl<'a> Known<'a> {
-    // The tables of a program; none where a name is doubled.
+    /// The tables of a program; none where a name is doubled.
     pub fn new(alloc: Global, program: &'a CoreProgram) -> Result<Option<Known<'a>>, NoMemory>
         ensures { IfOk result (λ made. IsKnown program.now made) }
     {
@@ -150,13 +150,14 @@ impl<'a> Known<'a> {
         }))
     }
 
-    // The datatypes in their order.
+    /// The datatypes in their order.
     pub fn decls(&self) -> &'a [DeclData]
         ensures { result.now ≡ (program_of self.now).decls }
     {
         self.decls
     }
 
+    /// The datatype that has this name, if the program declares one.
     pub fn datatype(&self, origin: Origin) -> Option<&'a DeclData>
         ensures { option_copied result ≡ decl_of (program_of self.now).decls origin }
     {
@@ -166,7 +167,7 @@ impl<'a> Known<'a> {
         }
     }
 
-    // The datatype of a constructor, and the constructor in it.
+    /// The datatype of a constructor, and the constructor in it.
     pub fn constructor(&self, origin: Origin) -> Option<(&'a DeclData, &'a DeclCon)>
         ensures found { option_map pair_at result ≡ con_of (program_of self.now).decls origin }
         ensures own { (q : DeclData × DeclCon) → con_of (program_of self.now).decls origin ≡ Some q
@@ -178,7 +179,7 @@ impl<'a> Known<'a> {
         }
     }
 
-    // The type of a definition.
+    /// The type of a definition.
     pub fn global(&self, name: CoreName) -> Result<Option<Type>, NoMemory>
         ensures { IfOk result (λ ty. option_map type_at ty ≡ global_type (program_of self.now).globals name) }
     {

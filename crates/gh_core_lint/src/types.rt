@@ -8,11 +8,11 @@ use gh_base::{NoMemory, TyCon};
 use gh_typeterm::{Kind, Shared, copy_kind, same_kind};
 use std::alloc::Global;
 
-// A type. Its parts may be shared in memory.
+/// A type. Its parts may be shared in memory.
 pub type Type = Shared<Node>;
 
-// A variable that a `forall` of the type binds is the number of binders between it and its own. One of the binders round
-// the type is its level, which is how many of them are further out.
+/// A variable that a `forall` of the type binds is the number of binders between it and its own. One of the binders round
+/// the type is its level, which is how many of them are further out.
 #[derive(Drop)]
 pub enum Node {
     Bound(usize),
@@ -23,7 +23,7 @@ pub enum Node {
     Any(Kind),
 }
 
-// The next number.
+/// The next number.
 pub fn next(number: usize) -> Result<usize, NoMemory>
     ensures { IfOk result (λ made. made ≡ suc number) }
 {
@@ -33,7 +33,7 @@ pub fn next(number: usize) -> Result<usize, NoMemory>
     }
 }
 
-// The sum of two numbers.
+/// The sum of two numbers.
 pub fn plus(a: usize, b: usize) -> Result<usize, NoMemory>
     ensures { IfOk result (λ made. made ≡ a + b) }
 {
@@ -43,42 +43,49 @@ pub fn plus(a: usize, b: usize) -> Result<usize, NoMemory>
     }
 }
 
+/// The type that is this constructor.
 pub fn make_con(alloc: Global, c: TyCon) -> Result<Type, NoMemory>
     ensures { IfOk result (λ made. type_at made ≡ con c) }
 {
     Shared::new(alloc, Node::Con(c))
 }
 
+/// The type that is the variable of the binder inside the type itself that so many binders are nearer than.
 pub fn make_bound(alloc: Global, index: usize) -> Result<Type, NoMemory>
     ensures { IfOk result (λ made. type_at made ≡ bound index) }
 {
     Shared::new(alloc, Node::Bound(index))
 }
 
+/// The type that is the variable of a type function round the node, by its level from 0.
 pub fn make_free(alloc: Global, level: usize) -> Result<Type, NoMemory>
     ensures { IfOk result (λ made. type_at made ≡ free level) }
 {
     Shared::new(alloc, Node::Free(level))
 }
 
+/// The application of a type to a type.
 pub fn make_app(alloc: Global, f: Type, x: Type) -> Result<Type, NoMemory>
     ensures { IfOk result (λ made. type_at made ≡ applied (type_at f) (type_at x)) }
 {
     Shared::new(alloc, Node::App(f, x))
 }
 
+/// The type that quantifies a variable of this kind over the body.
 pub fn make_forall(alloc: Global, kind: &Kind, body: Type) -> Result<Type, NoMemory>
     ensures { IfOk result (λ made. type_at made ≡ forall kind.now (type_at body)) }
 {
     Shared::new(alloc, Node::Forall(copy_kind(alloc, kind)?, body))
 }
 
+/// The closed type of this kind that is equal to itself alone.
 pub fn make_any(alloc: Global, kind: &Kind) -> Result<Type, NoMemory>
     ensures { IfOk result (λ made. type_at made ≡ any kind.now) }
 {
     Shared::new(alloc, Node::Any(copy_kind(alloc, kind)?))
 }
 
+/// The type of functions between two types.
 pub fn make_arrow(alloc: Global, from: Type, to: Type) -> Result<Type, NoMemory>
     ensures { IfOk result (λ made. type_at made ≡ arrow (type_at from) (type_at to)) }
 {
@@ -87,7 +94,7 @@ pub fn make_arrow(alloc: Global, from: Type, to: Type) -> Result<Type, NoMemory>
     make_app(alloc, part, to)
 }
 
-// Whether two types are equal.
+/// Whether two types are equal.
 pub fn same(a: &Type, b: &Type) -> bool
     ensures { IsTrue result ↔ (type_at a.now ≡ type_at b.now) }
 {
@@ -102,7 +109,7 @@ pub fn same(a: &Type, b: &Type) -> bool
     }
 }
 
-// The body of a `forall` at a type.
+/// The body of a `forall` at a type.
 pub fn open(alloc: Global, depth: usize, by: &Type, ty: &Type) -> Result<Type, NoMemory>
     ensures { IfOk result (λ made. type_at made ≡ opened depth (type_at by.now) (type_at ty.now)) }
 {
@@ -129,7 +136,7 @@ pub fn open(alloc: Global, depth: usize, by: &Type, ty: &Type) -> Result<Type, N
     }
 }
 
-// A type as the body of a `forall` that binds the variable of a level.
+/// A type as the body of a `forall` that binds the variable of a level.
 pub fn close(alloc: Global, level: usize, depth: usize, ty: &Type) -> Result<Type, NoMemory>
     ensures { IfOk result (λ made. type_at made ≡ closed_over level depth (type_at ty.now)) }
 {

@@ -12,7 +12,7 @@ use gh_typeterm::copy_kind;
 use sqlite_items::Boxed;
 use std::alloc::Global;
 
-// The same number in 32 bits.
+/// The same number in 32 bits.
 pub fn narrow(number: usize) -> Result<u32, NoMemory>
     ensures { IfOk result (λ made. made ≡ number) }
 {
@@ -88,7 +88,7 @@ fn write_under(alloc: Global, base: usize, depth: usize, ty: &Type) -> Result<Co
     }
 }
 
-// A type as a written one, its variables being their levels.
+/// A type as a written one, its variables being their levels.
 pub fn written(alloc: Global, ty: &Type) -> Result<CoreType, NoMemory>
     ensures { IfOk result (λ made. type_of made ≡ type_at ty.now) }
 {

@@ -10,8 +10,8 @@ use std::alloc::Global;
 use std::collections::HashMap;
 use std::marker::Model;
 
-// Binders, each a number with its level. The last is the nearest. The level of a number is looked up in a table, to
-// which each binder that ends gives back what its number had before.
+/// Binders, each a number with its level. The last is the nearest. The level of a number is looked up in a table, to
+/// which each binder that ends gives back what its number had before.
 #[derive(Drop)]
 pub struct Binders {
     entries: Vec<(u32, usize, Option<usize>)>,
@@ -30,6 +30,7 @@ impl Model for Binders {
 }
 
 impl Binders {
+    /// No binder.
     pub fn new(alloc: Global) -> Binders
         ensures { result ≡ [] }
     {
@@ -39,6 +40,8 @@ impl Binders {
         }
     }
 
+    /// A binder of this number with this level becomes the nearest one. Where there is no memory for it, the binders
+    /// stay as they were.
     pub fn bind_at(&mut self, number: u32, level: usize) -> Result<(), NoMemory>
         ensures { OnOk result (self.new ≡ self.old ++ (number, level) ∷ []) }
     {
@@ -53,6 +56,7 @@ impl Binders {
         }
     }
 
+    /// A binder of this number becomes the nearest one; its level is the count of the binders before it.
     pub fn bind(&mut self, number: u32) -> Result<(), NoMemory>
         ensures { OnOk result (self.new ≡ within self.old number) }
     {
@@ -60,7 +64,7 @@ impl Binders {
         self.bind_at(number, count)
     }
 
-    // Binds the numbers of one list.
+    /// Binds the numbers of one list.
     pub fn bind_list(&mut self, numbers: &[u32]) -> Result<(), NoMemory>
         ensures { OnOk result (self.new ≡ within_list self.old numbers.now) }
     {
@@ -82,7 +86,7 @@ impl Binders {
         }
     }
 
-    // Leaves the first binders only.
+    /// Leaves the first binders only.
     pub fn keep(&mut self, count: usize)
         ensures { self.new ≡ take count self.old }
     {
@@ -92,6 +96,7 @@ impl Binders {
         }
     }
 
+    /// How many binders there are, which is the level of the next one.
     pub fn count(&self) -> usize
         ensures value { result ≡ length self.now }
         ensures most { result < 2 ^ 63 }
@@ -99,7 +104,7 @@ impl Binders {
         self.entries.len()
     }
 
-    // The level of a variable: the number of binders before its own.
+    /// The level of a variable: the number of binders before its own.
     pub fn level(&self, number: u32) -> u64
         ensures { result ≡ level_of self.now number }
     {

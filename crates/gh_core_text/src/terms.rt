@@ -177,7 +177,7 @@ fn add_stop(
     add(out, b")")
 }
 
-// A term under its binders.
+/// A term under its binders.
 #[cycle(text)]
 #[tactic(auto, using(crate::proofs::Weights::letrec_weight, crate::proofs::Weights::case_weight))]
 pub fn add_term(

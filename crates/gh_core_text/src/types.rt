@@ -11,12 +11,14 @@ use gh_core::{CoreName, CoreType};
 use gh_typeterm::{Kind, Ty, TyNode};
 use itoa::Buffer;
 
+/// Bytes go to the end of the text. Where there is no memory for all of them, the text stays as it was.
 pub fn add(out: &mut Bytes, text: &[u8]) -> Result<(), NoMemory>
     ensures { OnOk result (out.new ≡ out.old ++ text.now) }
 {
     out.extend_from_slice(text)
 }
 
+/// A number in decimal goes to the end of the text.
 pub fn add_number(out: &mut Bytes, number: u64) -> Result<(), NoMemory>
     ensures { OnOk result (out.new ≡ out.old ++ decimal number) }
 {
@@ -31,7 +33,7 @@ fn add_text(out: &mut Bytes, names: &Names, id: NameId) -> Result<(), NoMemory>
     add(out, names.text(id))
 }
 
-// A name with its module.
+/// A name with its module.
 pub fn add_origin(out: &mut Bytes, names: &Names, origin: Origin) -> Result<(), NoMemory>
     requires { needs_origin origin ≤ length names.now }
     ensures { OnOk result (out.new ≡ out.old ++ origin_text names.now origin) }
@@ -89,7 +91,7 @@ fn add_braced_number(out: &mut Bytes, number: u32) -> Result<(), NoMemory>
     add(out, b"}")
 }
 
-// The name of a definition.
+/// The name of a definition.
 #[tactic(auto, unfolding(gh_core::specs::Text::core_name_text))]
 pub fn add_core_name(out: &mut Bytes, names: &Names, name: CoreName) -> Result<(), NoMemory>
     requires { needs_name name ≤ length names.now }
@@ -136,7 +138,7 @@ fn add_kind(out: &mut Bytes, kind: &Kind) -> Result<(), NoMemory>
     }
 }
 
-// A type variable where it is bound.
+/// A type variable where it is bound.
 pub fn add_type_binder(out: &mut Bytes, level: usize, kind: &Kind) -> Result<(), NoMemory>
     ensures { OnOk result (out.new ≡ out.old ++ type_binder level kind.now) }
 {
@@ -196,7 +198,7 @@ fn open_forall(out: &mut Bytes, types: &mut Binders, x: u32, kind: &Kind) -> Res
     Ok(count)
 }
 
-// A type, by itself or as the head of a spine.
+/// A type, by itself or as the head of a spine.
 #[tactic(auto, using(crate::proofs::Places::take_back))]
 pub fn add_type(
     out: &mut Bytes,
@@ -229,7 +231,7 @@ pub fn add_type(
     }
 }
 
-// The type of a field, by itself or as the head of a spine.
+/// The type of a field, by itself or as the head of a spine.
 pub fn add_field(out: &mut Bytes, names: &Names, ty: &Ty, inside: bool) -> Result<(), NoMemory>
     requires { needs_field ty.now ≤ length names.now }
     ensures { OnOk result (out.new ≡ out.old ++ field_text names.now ty.now inside) }
@@ -254,6 +256,7 @@ pub fn add_field(out: &mut Bytes, names: &Names, ty: &Ty, inside: bool) -> Resul
     }
 }
 
+/// The file of a place and its first and last byte, in decimal with a space before each, go to the end of the text.
 pub fn add_place(out: &mut Bytes, place: Span) -> Result<(), NoMemory>
     ensures { OnOk result (out.new ≡ out.old ++ place_text place) }
 {
@@ -264,7 +267,7 @@ pub fn add_place(out: &mut Bytes, place: Span) -> Result<(), NoMemory>
     add_number(out, place.to as u64)
 }
 
-// What stands before an item of a bracketed list.
+/// What stands before an item of a bracketed list.
 pub fn add_gap(out: &mut Bytes, place: usize) -> Result<(), NoMemory>
     ensures { OnOk result (out.new ≡ out.old ++ gap place) }
 {

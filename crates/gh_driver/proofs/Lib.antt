@@ -1,3 +1,4 @@
+pub mod Accepted
 pub mod Appended
 pub mod Cycles
 pub mod Fronts
@@ -6,6 +7,7 @@ pub mod LimitsNamed
 pub mod Links
 pub mod Plain
 pub mod Prefixes
+pub mod Rooms
 pub mod Runs
 pub mod Scoping
 pub mod Splits

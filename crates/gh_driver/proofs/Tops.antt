@@ -1,24 +1,22 @@
 -- The answers of the top call, outcome by outcome.
-use Rattle.std.proofs.Common.{◌≡◌, ℕ, IsTrue, List, [], take, Option, Some, ◌⊎◌, refl, sym, ap, inl, inr, subst}
+use Rattle.std.proofs.Common.{◌≡◌, ℕ, arith, IsTrue, List, [], take, Option, Some, ◌⊎◌, refl, sym, ap, inl, inr, subst}
 use Rattle.gh_base.specs.declared.Refusal.{Refusal}
 use Rattle.gh_outside.specs.Outside.{Rose, Reads, Appends, AppendsFront}
 use Rattle.gh_driver.specs.declared.status.Status.{Status}
 use Rattle.gh_driver.specs.declared.status.Status.TheVariants as status
 use Rattle.gh_bindings.specs.declared.binding.Binding.{Binding}
 use Rattle.gh_core.specs.Reduce as Run
-use Rattle.gh_machine.specs.Values.{cause_of, status_of}
-use Rattle.gh_driver.specs.Core.{core_seen, stop_of, cause_in}
-use Rattle.gh_machine.specs.declared.turn.Turn.TheVariants as Turn
-use Rattle.gh_machine.specs.declared.turn.Stop.{Stop}
-use Rattle.gh_machine.specs.declared.turn.StopCause.{StopCause}
-use Rattle.gh_machine.specs.declared.turn.StopCause.TheVariants as cause
-use Rattle.gh_driver.specs.Lines.{Table, steps_line, stopped_line_of}
+use Rattle.gh_driver.specs.Core.{core_seen}
+use Rattle.gh_driver.specs.Lines.{Table, write_line, memory_line}
 use Rattle.gh_driver.specs.declared.source.Source.{Source}
 use Rattle.gh_driver.specs.declared.top.Mode.{Mode}
 use Rattle.gh_driver.specs.Check.{checked_of}
+use Rattle.gh_driver.specs.declared.check.Checked.{Checked}
 use Rattle.gh_driver.specs.declared.check.Checked.TheVariants as checked
-use Rattle.gh_driver.specs.Top.{StatusNamed, IsUnrefused, Answer, Answers, Outputs, ran_to, ran, done, file_of, refused_by, checked_answer, answer_of, Gives, WriteCause, Shelves, IsQuiet, Does, Task, Asked, Told, IsComplete}
+use Rattle.gh_driver.specs.declared.top.Mode.TheVariants as mode
+use Rattle.gh_driver.specs.Top.{StatusNamed, IsUnrefused, Answer, Answers, Outputs, Tried, TurnSaid, ran_to, ran, done, file_of, refused_by, checked_answer, answer_of, Gives, Kept, Shelves, IsQuiet, IsFile, NoRoom, Does, Task, Asked, Told, IsComplete}
 use Rattle.gh_driver.proofs.Appended.{whole_front, appends_none}
+use Rattle.gh_driver.proofs.Keeping.{core_keeps_meaning}
 
 -- an answer that is known by an equation
 at_answer : (a b : Answer) (s : Status) (o : Outputs) → a ≡ b → Answers b s o → Answers a s o
@@ -29,69 +27,46 @@ ran_is : (files : List Source) (bs : List Binding) (n : ℕ) (r : Run.Status) �
 unfolding ran
 ran_is files bs n r f = ap (ran_to files (core_seen bs n).out) f
 
-cause_back : (c : StopCause) → cause_in (cause_of c) ≡ c
-cause_back cause.ErrorCalled = refl
-cause_back cause.NoMatch = refl
-cause_back cause.DivideByZero = refl
-cause_back cause.NoCharacter = refl
+run_unwritten : (files : List Source) (out : List ℕ) (s : Status) (o : Outputs) (r : Run.Status) → s ≡ status.WriteFault → AppendsFront o.out_old out o.out_new
+    → Rose o.out_faults_old o.out_faults_new → Tried write_line o.err_old o.err_new o.err_faults_old o.err_faults_new → Answers (ran_to files out r) s o
+run_unwritten files out s o Run.running e front rose tried = inr (inl (record { status_is = e; is_run = tt; out_is = front; rose = rose; err_is = tried }))
+run_unwritten files out s o Run.ended e front rose tried = inr (inl (record { status_is = e; is_run = tt; out_is = front; rose = rose; err_is = tried }))
+run_unwritten files out s o (Run.failed why place) e front rose tried = inr (inl (record { status_is = e; is_run = tt; out_is = front; rose = rose; err_is = tried }))
 
-stop_back : (stop : Stop) → stop_of (cause_of stop.cause) stop.span ≡ stop
-stop_back stop = ap (λ c. record { cause = c; span = stop.span }) (cause_back stop.cause)
+run_unmade : (files : List Source) (out : List ℕ) (s : Status) (o : Outputs) (r : Run.Status) → s ≡ status.NoMemory → AppendsFront o.out_old out o.out_new
+    → Tried memory_line o.err_old o.err_new o.err_faults_old o.err_faults_new → Answers (ran_to files out r) s o
+run_unmade files out s o Run.running e front tried = inr (inr (inr (record { status_is = e; out_is = front; out_kept = tt; err_is = tried })))
+run_unmade files out s o Run.ended e front tried = inr (inr (inr (record { status_is = e; out_is = front; out_kept = tt; err_is = tried })))
+run_unmade files out s o (Run.failed why place) e front tried = inr (inr (inr (record { status_is = e; out_is = front; out_kept = tt; err_is = tried })))
 
-failed_is : (files : List Source) (out : List ℕ) (stop : Stop) → ran_to files out (status_of (Turn.Failed stop)) ≡ record { status = status.MainFailed stop; out = out; err = stopped_line_of files stop }
-failed_is files out stop = ap (λ x. record { status = status.MainFailed x; out = out; err = stopped_line_of files x }) (stop_back stop)
+turn_answered : (files : List Source) (out : List ℕ) (s : Status) (o : Outputs) (r : Run.Status) → Appends o.out_old out o.out_new
+    → TurnSaid files r s o.err_old o.err_new o.err_faults_old o.err_faults_new → Answers (ran_to files out r) s o
+turn_answered files out s o Run.running put (inl h) = inl (record { status_is = h.0; out_is = put; out_kept = tt; err_is = h.1; err_kept = h.2 })
+turn_answered files out s o Run.running put (inr h) = inr (inr (inl (record { status_is = h.0; has_line = h.1; out_is = put; out_kept = tt; err_is = h.2 })))
+turn_answered files out s o Run.ended put (inl h) = inl (record { status_is = h.0; out_is = put; out_kept = tt; err_is = h.1; err_kept = h.2 })
+turn_answered files out s o Run.ended put (inr h) = absurd h.1
+turn_answered files out s o (Run.failed why place) put (inl h) = inl (record { status_is = h.0; out_is = put; out_kept = tt; err_is = h.1; err_kept = h.2 })
+turn_answered files out s o (Run.failed why place) put (inr h) = inr (inr (inl (record { status_is = h.0; has_line = h.1; out_is = put; out_kept = tt; err_is = h.2 })))
 
-module _ (files : List Source) (bs : List Binding) (n : ℕ) (o : Outputs) (stands : Run.Status) (f : (core_seen bs n).status ≡ stands) where
-  at_run : (s : Status) → Answers (ran_to files (core_seen bs n).out stands) s o → Answers (ran files bs n) s o
-  at_run s h = at_answer (ran files bs n) (ran_to files (core_seen bs n).out stands) s o (ran_is files bs n stands f) h
+module _ (files : List Source) (bs : List Binding) (n : ℕ) (s : Status) (o : Outputs) where
+  at_run : (r : Run.Status) → (core_seen bs n).status ≡ r → Answers (ran_to files (core_seen bs n).out r) s o → Answers (ran files bs n) s o
+  at_run r f h = at_answer (ran files bs n) (ran_to files (core_seen bs n).out r) s o (ran_is files bs n r f) h
 
-pub ran_ended : (files : List Source) (bs : List Binding) (n : ℕ) (o : Outputs) → (core_seen bs n).status ≡ status_of Turn.Ended
-    → Appends o.out_old (core_seen bs n).out o.out_new → Appends o.err_old [] o.err_new → Answers (ran files bs n) status.Ended o
-ran_ended files bs n o f out err = at_run files bs n o Run.ended f status.Ended (inl (record { status_is = refl; out_is = out; err_is = err }))
+  -- a run came to its end, or to the end of the budget, and said so
+  pub ran_said : (r : Run.Status) → (core_seen bs n).status ≡ r → Appends o.out_old (core_seen bs n).out o.out_new
+      → TurnSaid files r s o.err_old o.err_new o.err_faults_old o.err_faults_new → Answers (ran files bs n) s o
+  ran_said r f put said = at_run r f (turn_answered files (core_seen bs n).out s o r put said)
 
-pub ran_going : (files : List Source) (bs : List Binding) (n : ℕ) (o : Outputs) → (core_seen bs n).status ≡ status_of Turn.Running
-    → Appends o.out_old (core_seen bs n).out o.out_new → Appends o.err_old steps_line o.err_new → Answers (ran files bs n) status.OutOfSteps o
-ran_going files bs n o f out err = at_run files bs n o Run.running f status.OutOfSteps (inl (record { status_is = refl; out_is = out; err_is = err }))
+  -- what it printed could not be put
+  pub ran_unwritten : s ≡ status.WriteFault → AppendsFront o.out_old (core_seen bs n).out o.out_new → Rose o.out_faults_old o.out_faults_new
+      → Tried write_line o.err_old o.err_new o.err_faults_old o.err_faults_new → Answers (ran files bs n) s o
+  ran_unwritten e front rose tried =
+      at_run (core_seen bs n).status refl (run_unwritten files (core_seen bs n).out s o (core_seen bs n).status e front rose tried)
 
-pub ran_unsaid : (files : List Source) (bs : List Binding) (n : ℕ) (o : Outputs) → (core_seen bs n).status ≡ status_of Turn.Running
-    → Appends o.out_old (core_seen bs n).out o.out_new → Rose o.err_faults_old o.err_faults_new → Answers (ran files bs n) status.WriteFault o
-ran_unsaid files bs n o f out err =
-    at_run files bs n o Run.running f status.WriteFault (inr (inl (record { status_is = refl; out_is = whole_front o.out_old o.out_new (core_seen bs n).out out; cause = inr err })))
-
-module _ (files : List Source) (bs : List Binding) (n : ℕ) (o : Outputs) (stop : Stop) (f : (core_seen bs n).status ≡ status_of (Turn.Failed stop)) (out : Appends o.out_old (core_seen bs n).out o.out_new) where
-  at_stop : (s : Status) → Answers (record { status = status.MainFailed stop; out = (core_seen bs n).out; err = stopped_line_of files stop }) s o → Answers (ran files bs n) s o
-  at_stop s h =
-      at_run files bs n o (status_of (Turn.Failed stop)) f s
-      (at_answer (ran_to files (core_seen bs n).out (status_of (Turn.Failed stop))) (record { status = status.MainFailed stop; out = (core_seen bs n).out; err = stopped_line_of files stop }) s o
-      (failed_is files (core_seen bs n).out stop) h)
-
-  pub ran_failed : Appends o.err_old (stopped_line_of files stop) o.err_new → Answers (ran files bs n) (status.MainFailed stop) o
-  ran_failed err = at_stop (status.MainFailed stop) (inl (record { status_is = refl; out_is = out; err_is = err }))
-
-  pub ran_failed_unsaid : Rose o.err_faults_old o.err_faults_new → Answers (ran files bs n) status.WriteFault o
-  ran_failed_unsaid err = at_stop status.WriteFault (inr (inl (record { status_is = refl; out_is = whole_front o.out_old o.out_new (core_seen bs n).out out; cause = inr err })))
-
-unwritten : (files : List Source) (out : List ℕ) (o : Outputs) (r : Run.Status) → AppendsFront o.out_old out o.out_new → Rose o.out_faults_old o.out_faults_new
-    → Answers (ran_to files out r) status.WriteFault o
-unwritten files out o Run.running front cause = inr (inl (record { status_is = refl; out_is = front; cause = inl cause }))
-unwritten files out o Run.ended front cause = inr (inl (record { status_is = refl; out_is = front; cause = cause }))
-unwritten files out o (Run.failed why place) front cause = inr (inl (record { status_is = refl; out_is = front; cause = inl cause }))
-
-pub ran_unwritten : (files : List Source) (bs : List Binding) (n : ℕ) (o : Outputs) → AppendsFront o.out_old (core_seen bs n).out o.out_new → Rose o.out_faults_old o.out_faults_new
-    → Answers (ran files bs n) status.WriteFault o
-ran_unwritten files bs n o front cause =
-    at_run files bs n o (core_seen bs n).status refl status.WriteFault (unwritten files (core_seen bs n).out o (core_seen bs n).status front cause)
-
-without_room : (files : List Source) (out : List ℕ) (o : Outputs) (r : Run.Status) → AppendsFront o.out_old out o.out_new → Answers (ran_to files out r) status.NoMemory o
-without_room files out o Run.running front = inr (inr (record { status_is = refl; out_is = front }))
-without_room files out o Run.ended front = inr (inr (record { status_is = refl; out_is = front }))
-without_room files out o (Run.failed why place) front = inr (inr (record { status_is = refl; out_is = front }))
-
-pub ran_out_of_memory : (files : List Source) (bs : List Binding) (n : ℕ) (s : Status) (o : Outputs) → s ≡ status.NoMemory → AppendsFront o.out_old (core_seen bs n).out o.out_new
-    → Answers (ran files bs n) s o
-ran_out_of_memory files bs n s o e front =
-    let P : Status → Type 0 = λ x. Answers (ran files bs n) x o in
-    subst P (sym e) (at_run files bs n o (core_seen bs n).status refl status.NoMemory (without_room files (core_seen bs n).out o (core_seen bs n).status front))
+  -- there was not memory enough
+  pub ran_out_of_memory : s ≡ status.NoMemory → AppendsFront o.out_old (core_seen bs n).out o.out_new
+      → Tried memory_line o.err_old o.err_new o.err_faults_old o.err_faults_new → Answers (ran files bs n) s o
+  ran_out_of_memory e front tried = at_run (core_seen bs n).status refl (run_unmade files (core_seen bs n).out s o (core_seen bs n).status e front tried)
 
 pub nothing_added : (a : Option (List ℕ)) → Appends a [] a
 nothing_added a = appends_none a
@@ -115,21 +90,11 @@ answer_done table m file bytes bs s o e h =
 given : (a : Answer) (s : Status) (o : Outputs) → (Rose o.out_faults_old o.out_faults_new → ⊥) → (Rose o.err_faults_old o.err_faults_new → ⊥) → Answers a s o
     → (s ≡ status.NoMemory) ⊎ Gives a s o
 given a s o out err (inl g) = inr g
-given a s o out err (inr (inl u)) = absurd (never a.status u.cause)
-  where
-    never : (t : Status) → WriteCause t o → ⊥
-    never status.Usage c = err c.1
-    never (status.ReadFault i) c = err c.1
-    never (status.Refused r) c = err c.1
-    never status.Ended c = out c
-    never status.OutOfSteps (inl c) = out c
-    never status.OutOfSteps (inr c) = err c
-    never (status.MainFailed stop) (inl c) = out c
-    never (status.MainFailed stop) (inr c) = err c
-    never status.Accepted c = c
-    never status.WriteFault c = c
-    never status.NoMemory c = c
-given a s o out err (inr (inr m)) = inl m.status_is
+given a s o out err (inr (inl f)) = absurd (out f.rose)
+given a s o out err (inr (inr (inl f))) =
+    let h : Rose o.err_faults_old o.err_faults_new = omega (arith, f.err_is.rose, f.err_is.tried.later) in
+    absurd (err h)
+given a s o out err (inr (inr (inr m))) = inl m.status_is
 
 given_task : (table : Table) (m : Mode) (file : List ℕ) (shelf : Shelves) (s : Status) (o : Outputs) → IsTrue shelf.tells → IsQuiet file shelf o → Does table m file shelf s o
     → (s ≡ status.NoMemory) ⊎ ((whole : List ℕ) × (shelf.held file ≡ Some whole) × Gives (answer_of table m file (take 1048577 whole)) s o)
@@ -147,7 +112,7 @@ given_task table m file shelf s o tells quiet (inr r) = of_read (r.1 tells)
         joined reads.0 reads.1 (given (answer_of table m file (take 1048577 reads.0)) s o quiet.out quiet.err (subst P reads.2 r.2))
 
 pub complete : (words : List (List ℕ)) (table : Table) (shelf : Shelves) (s : Status) (o : Outputs) → Told words table shelf s o → IsComplete words table shelf s o
-complete words table shelf s o (inl memory) m file is tells quiet = inl memory.0
+complete words table shelf s o (inl memory) m file is tells quiet = inl memory.status_is
 complete words table shelf s o (inr asked) m file is tells quiet =
     let P : Option Task → Type 0 = λ t. Asked table t shelf s o in
     given_task table m file shelf s o tells quiet (subst P is asked)
@@ -170,6 +135,17 @@ memory_named table s e = subst (StatusNamed table) (sym e) tt
 pub memory_unrefused : (s : Status) → s ≡ status.NoMemory → IsUnrefused s
 memory_unrefused s e = subst IsUnrefused (sym e) tt
 
-pub ran_unmade : (files : List Source) (bs : List Binding) (n : ℕ) (s : Status) (o : Outputs) → s ≡ status.NoMemory → Appends o.out_old (core_seen bs n).out o.out_new
-    → Answers (ran files bs n) s o
-ran_unmade files bs n s o e out = ran_out_of_memory files bs n s o e (whole_front o.out_old o.out_new (core_seen bs n).out out)
+-- the core of each program keeps the meaning
+kept_so : (m : Mode) (c : Checked) → Kept m c
+unfolding Kept
+kept_so mode.Check c = tt
+kept_so (mode.Run n) (checked.Refused r) = tt
+kept_so (mode.Run n) (checked.Program bs) = core_keeps_meaning bs
+
+-- the answer for a file that was read
+pub read_does : (table : Table) (m : Mode) (name file bytes : List ℕ) (shelf : Shelves) (s : Status) (o : Outputs) → name ≡ file → IsFile shelf file bytes
+    → NoRoom s o ⊎ Answers (answer_of table m name bytes) s o → NoRoom s o ⊎ Does table m file shelf s o
+read_does table m name file bytes shelf s o e is (inl none) = inl none
+read_does table m name file bytes shelf s o e is (inr told) =
+    let P : List ℕ → Type 0 = λ x. Answers (answer_of table m x bytes) s o in
+    inr (inr (bytes, is, subst P e told, kept_so m (checked_of table bytes)))

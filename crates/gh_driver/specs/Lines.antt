@@ -1,5 +1,7 @@
 -- The lines on err.
-use Rattle.std.specs.Prelude.{ℕ, ◌-◌, ◌==◌, ◌<◌, Bool, if◌then◌else◌, List, [], ◌∷◌, ◌++◌, take, length, slice_index_or, Option, Some, None, codes, decimal}
+use Rattle.std.specs.Prelude.{◌≡◌, ℕ, ◌+◌, ◌-◌, ◌==◌, ◌<◌, ◌≤◌, max, vec_capacity, Bool, if◌then◌else◌, List, [], ◌∷◌, ◌++◌, take, length, slice_index_or, Option, Some, None, codes, decimal}
+use Rattle.std.specs.declared.alloc.Global.{Global}
+use Rattle.std.specs.declared.vec.Vec.{Vec}
 use Rattle.gh_base.specs.declared.NameId.{NameId}
 use Rattle.gh_base.specs.declared.Origin.{Origin}
 use Rattle.gh_base.specs.declared.Span.{Span}
@@ -12,11 +14,10 @@ use Rattle.gh_base.specs.declared.Refusal.TheVariants.{NotUtf8, NoToken, OpenCom
 use Rattle.gh_base.specs.Ids.{text_in}
 use Rattle.gh_base.specs.Refusals.{number_of, span_of}
 use Rattle.gh_driver.specs.declared.position.Position.{Position}
-use Rattle.gh_driver.specs.declared.position.TheConstants.{START}
 use Rattle.gh_machine.specs.declared.turn.Stop.{Stop}
 use Rattle.gh_machine.specs.declared.turn.StopCause.{StopCause}
 use Rattle.gh_machine.specs.declared.turn.StopCause.TheVariants as cause
-use Rattle.gh_driver.specs.Position.{moved_over}
+use Rattle.gh_driver.specs.Position.{file_start, moved_over}
 use Rattle.gh_driver.specs.declared.source.Source.{Source}
 
 abbrev pub Table : Type 0
@@ -155,7 +156,7 @@ source_of files s = slice_index_or files (s.file - 1) empty_source
 
 -- line and column of the first byte of a span
 abbrev pub position_of : List Source → Span → Position
-position_of files s = moved_over START (take s.from (source_of files s).bytes)
+position_of files s = moved_over file_start (take s.from (source_of files s).bytes)
 
 abbrev pub located : List Source → Span → List ℕ
 located files s =
@@ -237,6 +238,14 @@ usage_line = codes "usage: genhs check FILES, core FILES, run [--steps N] FILES,
 unfoldable pub steps_line : List ℕ
 steps_line = codes "genhs: out of steps" ++ 10 ∷ []
 
+-- the line of a failed write
+unfoldable pub write_line : List ℕ
+write_line = codes "genhs: cannot write" ++ 10 ∷ []
+
+-- the line of want of memory
+unfoldable pub memory_line : List ℕ
+memory_line = codes "genhs: out of memory" ++ 10 ∷ []
+
 unfoldable pub read_line_of : List ℕ → List ℕ
 read_line_of file = codes "genhs: cannot read " ++ (file ++ 10 ∷ [])
 
@@ -250,3 +259,13 @@ cause_of cause.NoCharacter = codes "NoCharacter"
 -- the line of a run that has failed: where in the program, and why
 unfoldable pub stopped_line_of : List Source → Stop → List ℕ
 stopped_line_of files stop = located files stop.span ++ (codes "stopped " ++ (cause_of stop.cause ++ 10 ∷ []))
+
+-- as long as the longest name of a file
+abbrev pub longest_name : List Source → ℕ
+longest_name [] = 0
+longest_name (f ∷ files) = max (length f.name) (longest_name files)
+
+-- room for the line of a run that has failed in one of these files: its two numbers, its cause and its marks have 128 bytes at most
+pub record IsRoom (files : List Source) (room : Vec ℕ Global) : Type 0 where
+  pub clear : room.items ≡ []
+  pub long : longest_name files + 128 ≤ vec_capacity room

@@ -2,6 +2,10 @@
 use Rattle.std.specs.Prelude.{ℕ, ◌+◌, ◌-◌, ◌*◌, ◌/◌, ◌^◌, min, Bool, true, false, ◌&&◌, ◌||◌, ◌==◌, nat_le, nat_lt, if◌then◌else◌, List, [], ◌∷◌}
 use Rattle.gh_driver.specs.declared.position.Position.{Position}
 
+-- the first byte of a file stands on line 1, in column 1
+abbrev pub file_start : Position
+file_start = record { line = 1; column = 1; after_return = false }
+
 -- numbers of lines and columns stand still at the last one that fits
 abbrev pub more : ℕ → ℕ → ℕ
 more n k = min (n + k) (2 ^ 32 - 1)

@@ -1,7 +1,7 @@
 -- What the top call says of its words, the shelf and the outputs, by its status.
-use Rattle.std.specs.Prelude.{◌≡◌, ℕ, Bool, IsTrue, List, [], ◌∷◌, take, Option, Some, None, ◌⊎◌}
+use Rattle.std.specs.Prelude.{◌≡◌, ◌≢◌, ◌≤◌, ℕ, Bool, IsTrue, List, [], ◌∷◌, take, Option, Some, None, ◌⊎◌}
 use Rattle.gh_base.specs.declared.Refusal.{Refusal}
-use Rattle.gh_outside.specs.Outside.{Rose, Reads, Appends, AppendsFront}
+use Rattle.gh_outside.specs.Outside.{Rose, Reads, Appends, AppendsFront, Asks}
 use Rattle.gh_driver.specs.declared.check.Checked.{Checked}
 use Rattle.gh_driver.specs.declared.check.Checked.TheVariants as checked
 use Rattle.gh_bindings.specs.declared.binding.Binding.{Binding}
@@ -14,9 +14,10 @@ use Rattle.gh_driver.specs.declared.status.Status.TheVariants as status
 use Rattle.gh_driver.specs.declared.words.Words.{Words}
 use Rattle.gh_driver.specs.declared.words.Words.TheVariants as meaning
 use Rattle.gh_driver.specs.Words.{meaning_of, built_of}
-use Rattle.gh_driver.specs.Lines.{Table, IsNamed, refusal_line_of, usage_line, steps_line, read_line_of, stopped_line_of}
+use Rattle.gh_driver.specs.Lines.{Table, IsNamed, refusal_line_of, usage_line, steps_line, write_line, memory_line, read_line_of, stopped_line_of}
 use Rattle.gh_driver.specs.Check.{checked_of}
 use Rattle.gh_driver.specs.Core.{core_seen, stop_of}
+use Rattle.gh_driver.specs.Keeping.{KeepsMeaning}
 
 -- the outputs before and after, with their counts of faults
 pub record Outputs : Type 0 where
@@ -29,12 +30,14 @@ pub record Outputs : Type 0 where
   pub err_faults_old : ℕ
   pub err_faults_new : ℕ
 
--- the shelf before and after
+-- the shelf before and after, with the names that it was asked for
 pub record Shelves : Type 0 where
   pub tells : Bool
   pub held : List ℕ → Option (List ℕ)
   pub faults_old : List ℕ → ℕ
   pub faults_new : List ℕ → ℕ
+  pub asked_old : List (List ℕ)
+  pub asked_new : List (List ℕ)
 
 -- the answer that is due: a status, the bytes on out and the line on err
 pub record Answer : Type 0 where
@@ -84,43 +87,115 @@ file_of name bytes = record { name = name; bytes = bytes } ∷ []
 unfoldable pub answer_of : Table → Mode → List ℕ → List ℕ → Answer
 answer_of table m file bytes = checked_answer table (file_of file bytes) m (checked_of table bytes)
 
+-- nothing was put on out, not even an empty piece: a put that fails raises the count
+abbrev pub OutKept : Outputs → Type 0
+OutKept o = (o.out_new ≡ o.out_old) × (o.out_faults_new ≡ o.out_faults_old)
+
+-- a run puts on out what it prints, and every other answer puts nothing there
+abbrev pub OutOf : Status → Outputs → Type 0
+OutOf status.Ended o = Unit {0}
+OutOf status.OutOfSteps o = Unit {0}
+OutOf (status.MainFailed stop) o = Unit {0}
+OutOf status.Accepted o = OutKept o
+OutOf status.Usage o = OutKept o
+OutOf (status.Refused r) o = OutKept o
+OutOf (status.ReadFault i) o = OutKept o
+OutOf status.WriteFault o = OutKept o
+OutOf status.NoMemory o = OutKept o
+
+-- the answer of a run
+abbrev pub IsRun : Status → Type 0
+IsRun status.Ended = Unit {0}
+IsRun status.OutOfSteps = Unit {0}
+IsRun (status.MainFailed stop) = Unit {0}
+IsRun status.Accepted = ⊥
+IsRun status.Usage = ⊥
+IsRun (status.Refused r) = ⊥
+IsRun (status.ReadFault i) = ⊥
+IsRun status.WriteFault = ⊥
+IsRun status.NoMemory = ⊥
+
+-- an answer with a line on err
+abbrev pub HasLine : Status → Type 0
+HasLine status.Usage = Unit {0}
+HasLine (status.Refused r) = Unit {0}
+HasLine (status.ReadFault i) = Unit {0}
+HasLine status.OutOfSteps = Unit {0}
+HasLine (status.MainFailed stop) = Unit {0}
+HasLine status.Accepted = ⊥
+HasLine status.Ended = ⊥
+HasLine status.WriteFault = ⊥
+HasLine status.NoMemory = ⊥
+
+-- an answer without a line puts nothing on err, not even an empty piece
+abbrev pub ErrOf : Status → ℕ → ℕ → Type 0
+ErrOf status.Accepted before now = now ≡ before
+ErrOf status.Ended before now = now ≡ before
+ErrOf status.Usage before now = Unit {0}
+ErrOf (status.Refused r) before now = Unit {0}
+ErrOf (status.ReadFault i) before now = Unit {0}
+ErrOf status.OutOfSteps before now = Unit {0}
+ErrOf (status.MainFailed stop) before now = Unit {0}
+ErrOf status.WriteFault before now = Unit {0}
+ErrOf status.NoMemory before now = Unit {0}
+
+-- a line that is tried once: it is put whole, or a front of it is and the count rose
+pub record Tried (line : List ℕ) (old new : Option (List ℕ)) (before now : ℕ) : Type 0 where
+  pub put : Appends old line new ⊎ (AppendsFront old line new × Rose before now)
+  pub later : before ≤ now
+
+-- a line could not be put: a front of it is on err and the count rose, and behind it the line of a failed write was tried
+pub record LineFailed (line : List ℕ) (old new : Option (List ℕ)) (before now : ℕ) : Type 0 where
+  pub between : Option (List ℕ)
+  pub count : ℕ
+  pub front : AppendsFront old line between
+  pub rose : Rose before count
+  pub tried : Tried write_line between new count now
+
+-- the line that an answer has was put, or was tried
+abbrev pub LineSaid : Answer → Status → Option (List ℕ) → Option (List ℕ) → ℕ → ℕ → Type 0
+LineSaid a s old new before now =
+    ((s ≡ a.status) × Appends old a.err new × ErrOf a.status before now)
+    ⊎ ((s ≡ status.WriteFault) × HasLine a.status × LineFailed a.err old new before now)
+
+-- so it was with the line of a run that stands so
+abbrev pub TurnSaid : List Source → Run.Status → Status → Option (List ℕ) → Option (List ℕ) → ℕ → ℕ → Type 0
+TurnSaid files r s old new before now = LineSaid (ran_to files [] r) s old new before now
+
 -- the answer is given: its status, its bytes and its line, and nothing else
 pub record Gives (a : Answer) (s : Status) (o : Outputs) : Type 0 where
   pub status_is : s ≡ a.status
   pub out_is : Appends o.out_old a.out o.out_new
+  pub out_kept : OutOf a.status o
   pub err_is : Appends o.err_old a.err o.err_new
+  pub err_kept : ErrOf a.status o.err_faults_old o.err_faults_new
 
--- nothing came on out, and the count of err rose
-abbrev pub ErrFails : Outputs → Type 0
-ErrFails o = (o.out_new ≡ o.out_old) × Rose o.err_faults_old o.err_faults_new
-
--- why an answer could not be written: for a run that has ended the count of out rose, for one that goes on or has failed that of out or
--- of err, and for all others that of err
-abbrev pub WriteCause : Status → Outputs → Type 0
-WriteCause status.Usage o = ErrFails o
-WriteCause (status.ReadFault i) o = ErrFails o
-WriteCause (status.Refused r) o = ErrFails o
-WriteCause status.Ended o = Rose o.out_faults_old o.out_faults_new
-WriteCause status.OutOfSteps o = Rose o.out_faults_old o.out_faults_new ⊎ Rose o.err_faults_old o.err_faults_new
-WriteCause (status.MainFailed stop) o = Rose o.out_faults_old o.out_faults_new ⊎ Rose o.err_faults_old o.err_faults_new
-WriteCause status.Accepted o = ⊥
-WriteCause status.WriteFault o = ⊥
-WriteCause status.NoMemory o = ⊥
-
--- the answer could not be written; a prefix of its bytes is on out
-pub record Unwritten (a : Answer) (s : Status) (o : Outputs) : Type 0 where
+-- what a run prints could not be put: a front of it is on out and the count of out rose; on err the line of a failed write was tried
+pub record OutFailed (a : Answer) (s : Status) (o : Outputs) : Type 0 where
   pub status_is : s ≡ status.WriteFault
+  pub is_run : IsRun a.status
   pub out_is : AppendsFront o.out_old a.out o.out_new
-  pub cause : WriteCause a.status o
+  pub rose : Rose o.out_faults_old o.out_faults_new
+  pub err_is : Tried write_line o.err_old o.err_new o.err_faults_old o.err_faults_new
 
--- there was not memory enough; a prefix of the answer's bytes is on out
+-- the line of the answer could not be put, behind the answer's bytes on out
+pub record ErrFailed (a : Answer) (s : Status) (o : Outputs) : Type 0 where
+  pub status_is : s ≡ status.WriteFault
+  pub has_line : HasLine a.status
+  pub out_is : Appends o.out_old a.out o.out_new
+  pub out_kept : OutOf a.status o
+  pub err_is : LineFailed a.err o.err_old o.err_new o.err_faults_old o.err_faults_new
+
+-- there was not memory enough: a front of the answer's bytes is on out, and on err the line that says so was tried
 pub record OutOfMemory (a : Answer) (s : Status) (o : Outputs) : Type 0 where
   pub status_is : s ≡ status.NoMemory
   pub out_is : AppendsFront o.out_old a.out o.out_new
+  pub out_kept : OutOf a.status o
+  pub err_is : Tried memory_line o.err_old o.err_new o.err_faults_old o.err_faults_new
 
 -- the answer is given, or could not be written, or there was not memory enough
 abbrev pub Answers : Answer → Status → Outputs → Type 0
-Answers a s o = Gives a s o ⊎ (Unwritten a s o ⊎ OutOfMemory a s o)
+Answers a s o = Gives a s o ⊎ (OutFailed a s o ⊎ (ErrFailed a s o ⊎ OutOfMemory a s o))
 
 -- the bytes of the file, where the shelf tells them
 abbrev pub IsFile : Shelves → List ℕ → List ℕ → Type 0
@@ -130,9 +205,15 @@ IsFile shelf file bytes = IsTrue shelf.tells → Reads (shelf.held file) 1048577
 abbrev pub Unread : List ℕ → Shelves → Status → Outputs → Type 0
 Unread file shelf s o = Rose (shelf.faults_old file) (shelf.faults_new file) × Answers (unread file) s o
 
--- the file was read, and its answer follows
+-- the core that a run makes of a program keeps what its `main` means
+unfoldable pub Kept : Mode → Checked → Type 0
+Kept mode.Check c = Unit {0}
+Kept (mode.Run n) (checked.Refused r) = Unit {0}
+Kept (mode.Run n) (checked.Program bs) = KeepsMeaning bs
+
+-- the file was read, and its answer follows; the core of a run keeps the meaning
 abbrev pub IsRead : Table → Mode → List ℕ → Shelves → Status → Outputs → Type 0
-IsRead table m file shelf s o = (bytes : List ℕ) × IsFile shelf file bytes × Answers (answer_of table m file bytes) s o
+IsRead table m file shelf s o = (bytes : List ℕ) × IsFile shelf file bytes × Answers (answer_of table m file bytes) s o × Kept m (checked_of table bytes)
 
 abbrev pub Does : Table → Mode → List ℕ → Shelves → Status → Outputs → Type 0
 Does table m file shelf s o = Unread file shelf s o ⊎ IsRead table m file shelf s o
@@ -161,13 +242,30 @@ abbrev pub Asked : Table → Option Task → Shelves → Status → Outputs → 
 Asked table None shelf s o = Answers misused s o
 Asked table (Some t) shelf s o = Does table t.mode t.file shelf s o
 
--- there was not memory enough, and nothing was written to out
-abbrev pub NoRoom : Status → Outputs → Type 0
-NoRoom s o = (s ≡ status.NoMemory) × (o.out_new ≡ o.out_old)
+-- there was not memory enough before an answer was known: nothing was put on out, and on err the line that says so was tried
+pub record NoRoom (s : Status) (o : Outputs) : Type 0 where
+  pub status_is : s ≡ status.NoMemory
+  pub out_kept : OutKept o
+  pub err_is : Tried memory_line o.err_old o.err_new o.err_faults_old o.err_faults_new
 
 -- the clause of the top call
 abbrev pub Told : List (List ℕ) → Table → Shelves → Status → Outputs → Type 0
 Told words table shelf s o = NoRoom s o ⊎ Asked table (task_of (built_of (meaning_of words))) shelf s o
+
+-- the one file that the words give is asked for, and no other; it is left out only without memory
+abbrev pub AsksFor : Option Task → Shelves → Status → Type 0
+AsksFor None shelf s = shelf.asked_new ≡ shelf.asked_old
+AsksFor (Some t) shelf s = Asks shelf.asked_old t.file (s ≡ status.NoMemory) shelf.asked_new
+
+-- a name that the words do not give
+abbrev pub IsOther : Option Task → List ℕ → Type 0
+IsOther None n = Unit {0}
+IsOther (Some t) n = n ≢ t.file
+
+-- only the files that the words give are read, and no count of another name rises
+pub record ReadsOnly (words : List (List ℕ)) (shelf : Shelves) (s : Status) : Type 0 where
+  pub asked : AsksFor (task_of (built_of (meaning_of words))) shelf s
+  pub others : (n : List ℕ) → IsOther (task_of (built_of (meaning_of words))) n → shelf.faults_new n ≡ shelf.faults_old n
 
 -- no count rose in the call
 pub record IsQuiet (file : List ℕ) (shelf : Shelves) (o : Outputs) : Type 0 where

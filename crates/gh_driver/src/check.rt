@@ -1,5 +1,6 @@
 // From bytes to a program or a refusal.
 ghost use Rattle.std.specs.Prelude.{◌≡◌, ◌<◌, ◌^◌, length, IfOk, Ok};
+ghost use Rattle.gh_base.specs.Table.{IsGrown};
 ghost use Rattle.gh_driver.specs.Check.{checked_of, formed_of, laid_of, limited_of, on_layout, RefusalNamed};
 
 use crate::link::link;
@@ -80,10 +81,11 @@ fn check_tokens(alloc: Global, tokens: &ListOf<Token>) -> Result<Checked, NoMemo
 }
 
 /// What the bytes of a file are.
-#[tactic(auto, unfolding(crate::specs::Check::checked_of), using(crate::proofs::Plain::long_named, crate::proofs::Plain::few_tokens, crate::proofs::Plain::reading_named, crate::proofs::Plain::laid_named, crate::proofs::Plain::tokens_are))]
+#[tactic(auto, unfolding(crate::specs::Check::checked_of), using(gh_base::specs::Table::grown_same, crate::proofs::Plain::long_named, crate::proofs::Plain::few_tokens, crate::proofs::Plain::reading_named, crate::proofs::Plain::laid_named, crate::proofs::Plain::tokens_are))]
 pub fn check(alloc: Global, names: &mut Names, bytes: &[u8]) -> Result<Checked, NoMemory>
     ensures value { IfOk result (λ c. c ≡ checked_of names.new bytes.now) }
     ensures named { IfOk result (λ c. RefusalNamed names.new c) }
+    ensures grows { IsGrown names.old names.new }
 {
     if bytes.len() > 1_048_576 {
         return Ok(Checked::Refused(Refusal::FileTooLong { span: NOWHERE }));

@@ -1,4 +1,5 @@
 // Laws on the definitions, each the contract of a function that does nothing.
+ghost use Rattle.gh_driver.specs.Accepted.{AcceptanceIsExact};
 ghost use Rattle.gh_driver.specs.Cycles.{CyclesRunForEver};
 ghost use Rattle.gh_driver.specs.Keeping.{CoreKeepsMeaning};
 ghost use Rattle.gh_driver.specs.Scoping.{ScopeIsExact};
@@ -20,4 +21,10 @@ pub fn scope_is_exact()
 /// is printed.
 pub fn cycles_run_for_ever()
     ensures { CyclesRunForEver }
+{}
+
+/// A check finds a program exactly where the file is accepted: it has a reading, a layout and a tree within the limits,
+/// the tree is of the first form, and each name that is used is bound once, `main` too.
+pub fn acceptance_is_exact()
+    ensures { AcceptanceIsExact }
 {}

@@ -12,7 +12,7 @@ mod status;
 mod top;
 mod words;
 
-pub use laws::{core_keeps_meaning, cycles_run_for_ever, scope_is_exact};
+pub use laws::{acceptance_is_exact, core_keeps_meaning, cycles_run_for_ever, scope_is_exact};
 pub use lines::refusal_line;
 pub use source::Source;
 pub use status::Status;

@@ -1,10 +1,10 @@
 // The lines on err.
-ghost use Rattle.std.specs.Prelude.{◌≡◌, ◌<◌, ◌≤◌, ◌++◌, ◌∷◌, [], length, take, IfOk, OnOk, Some, decimal};
+ghost use Rattle.std.specs.Prelude.{◌≡◌, ◌+◌, ◌<◌, ◌≤◌, ◌++◌, ◌∷◌, [], length, take, IfOk, OnOk, Some, decimal, vec_len, vec_capacity};
 ghost use Rattle.gh_base.specs.Ids.{text_in};
 ghost use Rattle.gh_base.specs.Refusals.{span_of};
-ghost use Rattle.gh_driver.specs.Lines.{variant_of, limit_of, tycon_of, pair_of, field, names_of, pairs_of, fields_of, located, is_whole_file, place_of_refusal, refusal_line_of, source_of, IsId, AreIds, IsHead, ArePairs, IsNamed, read_line_of, cause_of, stopped_line_of};
+ghost use Rattle.gh_driver.specs.Lines.{variant_of, limit_of, tycon_of, pair_of, field, names_of, pairs_of, fields_of, position_of, located, is_whole_file, place_of_refusal, refusal_line_of, source_of, IsId, AreIds, IsHead, ArePairs, IsNamed, read_line_of, cause_of, stopped_line_of, longest_name, IsRoom};
 
-use crate::position::{START, moved};
+use crate::position::{Position, START, moved};
 use crate::source::Source;
 use gh_base::{Bytes, Limit, ListOf, NameId, Names, NoMemory, Origin, Refusal, Span, TyCon};
 use gh_machine::{Stop, StopCause};
@@ -232,10 +232,17 @@ fn bytes_of<'a>(files: &'a [Source], span: Span) -> &'a [u8]
     }
 }
 
+// Where a span begins.
+fn begins_at(files: &[Source], span: Span) -> Position
+    ensures { result ≡ position_of files.now span }
+{
+    moved(START, front(bytes_of(files, span), span.from as usize))
+}
+
 fn add_located(out: &mut Bytes, files: &[Source], span: Span) -> Result<(), NoMemory>
     ensures { OnOk result (out.new ≡ out.old ++ located files.now span) }
 {
-    let position = moved(START, front(bytes_of(files, span), span.from as usize));
+    let position = begins_at(files, span);
     add(out, name_of(files, span))?;
     add(out, b":")?;
     add_number(out, position.line)?;
@@ -292,9 +299,71 @@ pub fn read_line(alloc: Global, file: &[u8]) -> Result<Bytes, NoMemory>
     Ok(out)
 }
 
+// The length of the longest name of a file.
+fn longest(files: &[Source]) -> usize
+    ensures { result ≡ longest_name files.now }
+{
+    let mut most: usize = 0;
+    for source in files {
+        most = most.max(source.name.as_slice().len());
+    }
+    most
+}
+
+/// Room for the line of a run that fails in one of these files.
+pub fn line_room(alloc: Global, files: &ListOf<Source>) -> Result<Vec<u8>, NoMemory>
+    ensures { IfOk result (λ room. IsRoom files.now room) }
+{
+    let Some(size) = longest(files.as_slice()).checked_add(128) else {
+        return Err(NoMemory);
+    };
+    Ok(Vec::with_capacity(alloc, size)?)
+}
+
+// More bytes in room that was taken before.
+fn fill(to: &mut Vec<u8>, text: &[u8])
+    requires { vec_len to.old + length text.now ≤ vec_capacity to.old }
+    ensures items { to.new.items ≡ to.old.items ++ text.now }
+    ensures len { vec_len to.new ≡ vec_len to.old + length text.now }
+    ensures capacity { vec_capacity to.old ≤ vec_capacity to.new }
+{
+    match to.extend_from_slice(text) {
+        Ok(()) => {}
+        Err(_) => unreachable!(),
+    }
+}
+
+// A number more, of 40 bytes at most.
+fn fill_number(to: &mut Vec<u8>, number: u32)
+    requires { vec_len to.old + 40 ≤ vec_capacity to.old }
+    ensures items { to.new.items ≡ to.old.items ++ decimal number }
+    ensures len { vec_len to.new ≤ vec_len to.old + 40 }
+    ensures capacity { vec_capacity to.old ≤ vec_capacity to.new }
+{
+    let mut buffer = Buffer::new();
+    fill(to, buffer.format(number).as_bytes());
+}
+
+// The file, line and column of a span: the name, two numbers and four marks.
+fn fill_located(to: &mut Vec<u8>, files: &[Source], span: Span)
+    requires { vec_len to.old + length (source_of files.now span).name + 84 ≤ vec_capacity to.old }
+    ensures items { to.new.items ≡ to.old.items ++ located files.now span }
+    ensures len { vec_len to.new ≤ vec_len to.old + length (source_of files.now span).name + 84 }
+    ensures capacity { vec_capacity to.old ≤ vec_capacity to.new }
+{
+    let position = begins_at(files, span);
+    fill(to, name_of(files, span));
+    fill(to, b":");
+    fill_number(to, position.line);
+    fill(to, b":");
+    fill_number(to, position.column);
+    fill(to, b": ");
+}
+
 #[tactic(auto, unfolding(crate::specs::Lines::cause_of))]
 fn cause(cause: StopCause) -> &'static [u8]
-    ensures { result.now ≡ cause_of cause }
+    ensures text { result.now ≡ cause_of cause }
+    ensures short { length result.now ≤ 12 }
 {
     match cause {
         StopCause::ErrorCalled => b"ErrorCalled",
@@ -304,15 +373,16 @@ fn cause(cause: StopCause) -> &'static [u8]
     }
 }
 
-/// The line that says why and where a run has failed.
-#[tactic(auto, unfolding(crate::specs::Lines::stopped_line_of))]
-pub fn stopped_line(alloc: Global, files: &ListOf<Source>, stop: Stop) -> Result<Bytes, NoMemory>
-    ensures { IfOk result (λ line. line ≡ stopped_line_of files.now stop) }
+/// The line that says why and where a run has failed, in room that was taken before the run. It takes no memory.
+#[tactic(auto, unfolding(crate::specs::Lines::stopped_line_of), using(crate::proofs::Rooms::name_within))]
+pub fn stopped_line(room: Vec<u8>, files: &ListOf<Source>, stop: Stop) -> Vec<u8>
+    requires { IsRoom files.now room }
+    ensures { result.items ≡ stopped_line_of files.now stop }
 {
-    let mut out = ListOf::new(alloc);
-    add_located(&mut out, files.as_slice(), stop.span)?;
-    add(&mut out, b"stopped ")?;
-    add(&mut out, cause(stop.cause))?;
-    add(&mut out, b"\n")?;
-    Ok(out)
+    let mut line = room;
+    fill_located(&mut line, files.as_slice(), stop.span);
+    fill(&mut line, b"stopped ");
+    fill(&mut line, cause(stop.cause));
+    fill(&mut line, b"\n");
+    line
 }

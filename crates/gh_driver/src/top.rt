@@ -1,12 +1,15 @@
 // The top call.
-ghost use Rattle.std.specs.Prelude.{◌≡◌, ◌++◌, ◌∷◌, [], ◌⊎◌, ℕ, List, Some, None, IfOk, OnOk, OnErr};
-ghost use Rattle.gh_outside.specs.Outside.{Rose, Appends, AppendsFront};
-ghost use Rattle.gh_driver.specs.Lines.{IsNamed, steps_line, usage_line, stopped_line_of};
+ghost use Rattle.std.specs.Prelude.{◌≡◌, ◌≢◌, ◌++◌, ◌∷◌, [], ◌⊎◌, ℕ, List, Some, None, IfOk, OnOk, OnErr};
+ghost use Rattle.gh_base.specs.Fixed.{fixed_texts};
+ghost use Rattle.gh_base.specs.Table.{IsGrown};
+ghost use Rattle.gh_outside.specs.Outside.{Appends, Asks};
+ghost use Rattle.gh_driver.specs.Lines.{IsNamed, IsRoom, steps_line, usage_line, write_line, memory_line};
+ghost use Rattle.gh_machine.specs.Values.{status_of};
 ghost use Rattle.gh_driver.specs.Check.{checked_of};
-ghost use Rattle.gh_driver.specs.Top.{Outputs, Shelves, Answers, misused, unread, refused_by, ran, accepted, done, file_of, answer_of, task_of, Asked, Told, IsComplete, NoRoom, Does, StatusNamed, IsUnrefused};
+ghost use Rattle.gh_driver.specs.Top.{Outputs, Shelves, Answers, Tried, LineFailed, TurnSaid, misused, unread, refused_by, ran, accepted, done, file_of, answer_of, task_of, Asked, Told, IsComplete, NoRoom, Does, ReadsOnly, StatusNamed, IsUnrefused};
 
 use crate::check::{Checked, check};
-use crate::lines::{read_line, refusal_line, stopped_line};
+use crate::lines::{line_room, read_line, refusal_line, stopped_line};
 use crate::run::{RunFault, run_main};
 use crate::source::Source;
 use crate::status::Status;
@@ -19,16 +22,46 @@ use std::alloc::Global;
 
 const USAGE: &[u8] = b"usage: genhs check FILES, core FILES, run [--steps N] FILES, or sample N\n";
 
-// The lines of a failed write and of want of memory are tried once.
-fn try_line<E: Out>(err: &mut E, text: &[u8]) {
-    let _ = err.put(text);
+// Tries a line once.
+fn try_line<E: Out>(err: &mut E, text: &[u8])
+    ensures { Tried text.now (E.written err.old) (E.written err.new) (E.faults err.old) (E.faults err.new) }
+{
+    match err.put(text) {
+        Ok(()) => {}
+        Err(OutFault::Failed) => {}
+    }
 }
 
+// Says that there is not enough memory, as far as that can be said.
+#[tactic(auto, unfolding(crate::specs::Lines::memory_line))]
 fn out_of_memory<E: Out>(err: &mut E) -> Status
-    ensures { result ≡ Status.NoMemory }
+    ensures status { result ≡ Status.NoMemory }
+    ensures tried { Tried memory_line (E.written err.old) (E.written err.new) (E.faults err.old) (E.faults err.new) }
 {
     try_line(err, b"genhs: out of memory\n");
     Status::NoMemory
+}
+
+// Says that an output could not be written, as far as that can be said.
+#[tactic(auto, unfolding(crate::specs::Lines::write_line))]
+fn cannot_write<E: Out>(err: &mut E)
+    ensures { Tried write_line (E.written err.old) (E.written err.new) (E.faults err.old) (E.faults err.new) }
+{
+    try_line(err, b"genhs: cannot write\n");
+}
+
+// Puts the line of an answer. Where that fails, the line of a failed write is tried behind it.
+fn say<E: Out>(err: &mut E, line: &[u8]) -> Result<(), OutFault>
+    ensures ok { OnOk result (Appends (E.written err.old) line.now (E.written err.new)) }
+    ensures failed { OnErr result (LineFailed line.now (E.written err.old) (E.written err.new) (E.faults err.old) (E.faults err.new)) }
+{
+    match err.put(line) {
+        Ok(()) => Ok(()),
+        Err(OutFault::Failed) => {
+            cannot_write(err);
+            Err(OutFault::Failed)
+        }
+    }
 }
 
 /// What is done with a file.
@@ -44,9 +77,32 @@ pub enum Mode {
 #[tactic(auto, unfolding(crate::specs::Lines::steps_line))]
 fn out_of_steps<E: Out>(err: &mut E) -> Result<(), OutFault>
     ensures ok { OnOk result (Appends (E.written err.old) steps_line (E.written err.new)) }
-    ensures failed { OnErr result (Rose (E.faults err.old) (E.faults err.new)) }
+    ensures failed { OnErr result (LineFailed steps_line (E.written err.old) (E.written err.new) (E.faults err.old) (E.faults err.new)) }
 {
-    err.put(b"genhs: out of steps\n")
+    say(err, b"genhs: out of steps\n")
+}
+
+// Says how a run stands, in room that was taken before it began. It takes no memory.
+fn say_turn<E: Out>(files: &ListOf<Source>, turn: Turn, room: Vec<u8>, err: &mut E) -> Status
+    requires { IsRoom files.now room }
+    ensures said { TurnSaid files.now (status_of turn) result (E.written err.old) (E.written err.new) (E.faults err.old) (E.faults err.new) }
+    ensures memory { result ≢ Status.NoMemory }
+    ensures accepted { IsUnrefused result }
+{
+    match turn {
+        Turn::Ended => Status::Ended,
+        Turn::Running => match out_of_steps(err) {
+            Ok(()) => Status::OutOfSteps,
+            Err(OutFault::Failed) => Status::WriteFault,
+        },
+        Turn::Failed(stop) => {
+            let line = stopped_line(room, files, stop);
+            match say(err, line.as_slice()) {
+                Ok(()) => Status::MainFailed(stop),
+                Err(OutFault::Failed) => Status::WriteFault,
+            }
+        }
+    }
 }
 
 // Runs a program, and says how the run has ended.
@@ -71,24 +127,14 @@ fn run_program<O: Out, E: Out>(
     }) }
     ensures accepted { IsUnrefused result }
 {
+    let Ok(room) = line_room(alloc, files) else {
+        return out_of_memory(err);
+    };
     match run_main(alloc, out, bindings, steps) {
-        Ok(Turn::Ended) => Status::Ended,
-        Ok(Turn::Running) => match out_of_steps(err) {
-            Ok(()) => Status::OutOfSteps,
-            Err(OutFault::Failed) => Status::WriteFault,
-        },
-        Ok(Turn::Failed(stop)) => {
-            let Ok(line) = stopped_line(alloc, files, stop) else {
-                return out_of_memory(err);
-            };
-            match err.put(line.as_slice()) {
-                Ok(()) => Status::MainFailed(stop),
-                Err(OutFault::Failed) => Status::WriteFault,
-            }
-        }
+        Ok(turn) => say_turn(files, turn, room, err),
         Err(RunFault::NoMemory) => out_of_memory(err),
         Err(RunFault::Failed) => {
-            try_line(err, b"genhs: cannot write\n");
+            cannot_write(err);
             Status::WriteFault
         }
     }
@@ -121,7 +167,7 @@ fn refuse<O: Out, E: Out>(
     let Ok(line) = refusal_line(alloc, names, files, &refusal) else {
         return out_of_memory(err);
     };
-    match err.put(line.as_slice()) {
+    match say(err, line.as_slice()) {
         Ok(()) => Status::Refused(refusal),
         Err(OutFault::Failed) => Status::WriteFault,
     }
@@ -195,6 +241,7 @@ fn do_bytes<O: Out, E: Out>(
       err_faults_new = E.faults err.new;
     }) }
     ensures named { StatusNamed names.new result }
+    ensures grows { IsGrown names.old names.new }
 {
     let checked = check(alloc, names, bytes.as_slice());
     let Ok(files) = one_source(alloc, file, bytes) else {
@@ -226,14 +273,14 @@ fn cannot_read<O: Out, E: Out>(alloc: Global, file: &[u8], out: &mut O, err: &mu
     let Ok(line) = read_line(alloc, file) else {
         return out_of_memory(err);
     };
-    match err.put(line.as_slice()) {
+    match say(err, line.as_slice()) {
         Ok(()) => Status::ReadFault(0),
         Err(OutFault::Failed) => Status::WriteFault,
     }
 }
 
 // Reads the file and does with it what is asked for.
-#[tactic(auto, using(crate::proofs::Tops::unrefused_named, crate::proofs::Tops::memory_named))]
+#[tactic(auto, using(gh_base::specs::Table::grown_same, crate::proofs::Tops::unrefused_named, crate::proofs::Tops::memory_named))]
 fn do_file<S: Shelf, O: Out, E: Out>(
     alloc: Global,
     names: &mut Names,
@@ -252,7 +299,7 @@ fn do_file<S: Shelf, O: Out, E: Out>(
       err_new = E.written err.new;
       err_faults_old = E.faults err.old;
       err_faults_new = E.faults err.new;
-    }) ⊎ Does names.new mode file.now (record { tells = S.tells shelf.old; held = S.held shelf.old; faults_old = S.faults shelf.old; faults_new = S.faults shelf.new }) result (record {
+    }) ⊎ Does names.new mode file.now (record { tells = S.tells shelf.old; held = S.held shelf.old; faults_old = S.faults shelf.old; faults_new = S.faults shelf.new; asked_old = S.asked shelf.old; asked_new = S.asked shelf.new }) result (record {
       out_old = O.written out.old;
       out_new = O.written out.new;
       out_faults_old = O.faults out.old;
@@ -262,7 +309,10 @@ fn do_file<S: Shelf, O: Out, E: Out>(
       err_faults_old = E.faults err.old;
       err_faults_new = E.faults err.new;
     }) }
+    ensures asked { Asks (S.asked shelf.old) file.now (result ≡ Status.NoMemory) (S.asked shelf.new) }
+    ensures others { (n : List ℕ) → n ≢ file.now → S.faults shelf.new n ≡ S.faults shelf.old n }
     ensures named { StatusNamed names.new result }
+    ensures grows { IsGrown names.old names.new }
 {
     match shelf.read_file(file, 1_048_577) {
         Ok(bytes) => do_bytes(alloc, names, mode, file.as_slice(), bytes, out, err),
@@ -272,7 +322,7 @@ fn do_file<S: Shelf, O: Out, E: Out>(
 }
 
 // Answers the words.
-#[tactic(auto, unfolding(crate::specs::Lines::usage_line), using(crate::proofs::Tops::nothing_added, crate::proofs::Tops::no_front, crate::proofs::Tops::memory_named))]
+#[tactic(auto, unfolding(crate::specs::Lines::usage_line), using(gh_base::specs::Table::grown_same, crate::proofs::Tops::nothing_added, crate::proofs::Tops::no_front, crate::proofs::Tops::memory_named))]
 fn answer<S: Shelf, O: Out, E: Out>(
     alloc: Global,
     names: &mut Names,
@@ -281,7 +331,7 @@ fn answer<S: Shelf, O: Out, E: Out>(
     out: &mut O,
     err: &mut E,
 ) -> Status
-    ensures told { Told words.now names.new (record { tells = S.tells shelf.old; held = S.held shelf.old; faults_old = S.faults shelf.old; faults_new = S.faults shelf.new }) result (record {
+    ensures told { Told words.now names.new (record { tells = S.tells shelf.old; held = S.held shelf.old; faults_old = S.faults shelf.old; faults_new = S.faults shelf.new; asked_old = S.asked shelf.old; asked_new = S.asked shelf.new }) result (record {
       out_old = O.written out.old;
       out_new = O.written out.new;
       out_faults_old = O.faults out.old;
@@ -292,10 +342,12 @@ fn answer<S: Shelf, O: Out, E: Out>(
       err_faults_new = E.faults err.new;
     }) }
     ensures named { StatusNamed names.new result }
+    ensures reads { ReadsOnly words.now (record { tells = S.tells shelf.old; held = S.held shelf.old; faults_old = S.faults shelf.old; faults_new = S.faults shelf.new; asked_old = S.asked shelf.old; asked_new = S.asked shelf.new }) result }
+    ensures grows { IsGrown names.old names.new }
 {
     match read_words(alloc, words) {
         Err(WordsFault::NoMemory) => out_of_memory(err),
-        Err(WordsFault::Usage) => match err.put(USAGE) {
+        Err(WordsFault::Usage) => match say(err, USAGE) {
             Ok(()) => Status::Usage,
             Err(OutFault::Failed) => Status::WriteFault,
         },
@@ -324,7 +376,7 @@ pub fn genhs<S: Shelf, O: Out, E: Out>(
     out: &mut O,
     err: &mut E,
 ) -> Status
-    ensures told { Told words.now names.new (record { tells = S.tells shelf.old; held = S.held shelf.old; faults_old = S.faults shelf.old; faults_new = S.faults shelf.new }) result (record {
+    ensures told { Told words.now names.new (record { tells = S.tells shelf.old; held = S.held shelf.old; faults_old = S.faults shelf.old; faults_new = S.faults shelf.new; asked_old = S.asked shelf.old; asked_new = S.asked shelf.new }) result (record {
       out_old = O.written out.old;
       out_new = O.written out.new;
       out_faults_old = O.faults out.old;
@@ -335,7 +387,7 @@ pub fn genhs<S: Shelf, O: Out, E: Out>(
       err_faults_new = E.faults err.new;
     }) }
     // Where the words have a meaning, the shelf tells what it holds and no count rises, there is one answer.
-    ensures complete { IsComplete words.now names.new (record { tells = S.tells shelf.old; held = S.held shelf.old; faults_old = S.faults shelf.old; faults_new = S.faults shelf.new }) result (record {
+    ensures complete { IsComplete words.now names.new (record { tells = S.tells shelf.old; held = S.held shelf.old; faults_old = S.faults shelf.old; faults_new = S.faults shelf.new; asked_old = S.asked shelf.old; asked_new = S.asked shelf.new }) result (record {
       out_old = O.written out.old;
       out_new = O.written out.new;
       out_faults_old = O.faults out.old;
@@ -347,6 +399,13 @@ pub fn genhs<S: Shelf, O: Out, E: Out>(
     }) }
     // A name that a refusal has is of the table, so its line has the text of that name.
     ensures named { StatusNamed names.new result }
+    // Only the files that the words give are read.
+    ensures reads { ReadsOnly words.now (record { tells = S.tells shelf.old; held = S.held shelf.old; faults_old = S.faults shelf.old; faults_new = S.faults shelf.new; asked_old = S.asked shelf.old; asked_new = S.asked shelf.new }) result }
+    // Names keep their numbers, and the table begins with the fixed texts.
+    ensures grows { IsGrown names.old names.new }
+    ensures fixed { IsGrown fixed_texts names.new }
 {
-    answer(alloc, names, words, shelf, out, err)
+    let status = answer(alloc, names, words, shelf, out, err);
+    names.begins_with_fixed();
+    status
 }

@@ -9,7 +9,7 @@ use Rattle.gh_fixity.specs.Stack.{Open, after_minus, after, allows, reduced, shi
 use Rattle.gh_fixity.proofs.Sound.{read_tree, some_is}
 use Rattle.gh_fixity.proofs.Complete.{spine, last, closed_spine, steps_tree}
 
-read_back : (items : List Item) (t : Tree) → Arranges items t → steps start (marks_from 0 items) ≡ Some (spine t ++ [], Some (last t))
+pub read_back : (items : List Item) (t : Tree) → Arranges items t → steps start (marks_from 0 items) ≡ Some (spine t ++ [], Some (last t))
 read_back items t h = ap (λ ms. steps start ms) (sym h.in_list) ∙ steps_tree t [] h.fitting refl
 
 abbrev leaf_of : Option ℕ → ℕ

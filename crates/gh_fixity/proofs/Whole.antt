@@ -1,5 +1,5 @@
 -- A tree says which answer it comes from.
-use Rattle.std.proofs.Common.{◌≡◌, ℕ, List, refl, sym, ap, subst, ◌∙◌}
+use Rattle.std.proofs.Common.{◌≡◌, ℕ, List, sym, ap, subst, ◌∙◌}
 use Rattle.gh_fixity.specs.declared.item.Item.{Item}
 use Rattle.gh_fixity.specs.declared.item.Arranged.{Arranged, roll-Arranged, map-Arranged, fold-roll-Arranged, ind-Arranged}
 use Rattle.gh_fixity.specs.declared.item.Arranged.TheOpen.{Arranged-F}

@@ -1,3 +1,17 @@
 pub mod Arrangement
+pub mod Built
+pub mod Exps
+pub mod Finish
+pub mod Fixities
 pub mod Frames
+pub mod Parts
+pub mod Patterns
+pub mod Programs
+pub mod Reads
+pub mod Scopes
+pub mod Seen
+pub mod Settle
+pub mod Settled
+pub mod Spans
 pub mod Stack
+pub mod Walks

@@ -1,8 +1,9 @@
 // A reader of operator lists that keeps a stack of what is open.
-ghost use Rattle.std.specs.Prelude.{◌≡◌, ℕ, [], ◌∷◌, ◌++◌, ◌+◌, ◌<◌, ◌≤◌, ◌↔◌, List, IsTrue, IfOk, OnOk, Some, None, take, slice_get, length};
+ghost use Rattle.std.specs.Prelude.{◌≡◌, ℕ, [], ◌∷◌, ◌++◌, ◌+◌, ◌<◌, ◌≤◌, ◌↔◌, List, IsTrue, IfOk, OnOk, Option, Some, None, take, slice_get, length};
 ghost use Rattle.gh_fixity.specs.declared.item.Item.{Item};
 ghost use Rattle.gh_fixity.specs.Arrangement.{fixity_in, or_default, level_at, level_in, item_fixity, may_be_left, may_be_right, tree_in, marks_from, minus_sign, op_at, IsNearest, Arranges, Clashes, IfClash, HasOneAnswer, HasOneTree, is_list};
 ghost use Rattle.gh_fixity.specs.Frames.{open_of, opens, closes_top};
+ghost use Rattle.gh_fixity.specs.Settle.{settle, fails};
 ghost use Rattle.gh_fixity.specs.Stack.{applied, closed, reduced, settled, allows, open_fixity, step, steps, start};
 
 use crate::item::{ArrangeFault, Arranged, Fixity, Item, Side};
@@ -225,6 +226,8 @@ pub fn arrange(alloc: Global, items: &ListOf<Item>) -> Result<Arranged, ArrangeF
     requires { IsTrue (is_list items.now) }
     ensures tree { IfOk result (λ tree. Arranges items.now (tree_in items.now tree)) }
     ensures clash { IfClash result (Clashes items.now) }
+    // The two places are those that reading the list from its front gives.
+    ensures settled { IfClash result (λ left right. (root : Option ℕ) → settle items.now root ≡ fails left right) }
 {
     let list = items.as_slice();
     if list.len() > u32::MAX as usize {

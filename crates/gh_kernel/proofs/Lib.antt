@@ -1,7 +1,16 @@
+pub mod BodyInstances
 pub mod Close
 pub mod Erasures
 pub mod Examples
 pub mod LongerExamples
 pub mod Printing
 pub mod Shapes
+pub mod StepCounts
+pub mod TypingBridge
+pub mod TypingExact
+pub mod TypingFixed
+pub mod TypingGeneral
+pub mod TypingRules
+pub mod TypingWorked
 pub mod Typings
+pub mod Undoing

@@ -8,7 +8,7 @@ use Rattle.gh_core.specs.Primitives.{Primitive, error, unary, binary, Outcome, g
 use Rattle.gh_core.specs.Reduce.{Status, running, ended, failed, same_literal, string_con}
 use Rattle.gh_core.specs.Terms.{Literal, int, char}
 use Rattle.gh_kernel.specs.declared.names.TopName.{TopName}
-use Rattle.std.specs.Prelude.{◌==◌, ◌&&◌, nat_le, length, drop}
+use Rattle.std.specs.Prelude.{◌==◌, ◌&&◌, length, drop}
 use Rattle.gh_base.specs.declared.fixed.TheConstants.{TRUE, FALSE}
 use Rattle.gh_kernel.specs.Closing.{Env, close, close_bodies, close_groups, empty, without, groups_bind, put, put_groups}
 use Rattle.gh_kernel.specs.Conversions.{one_pattern, converted}
@@ -16,55 +16,9 @@ use Rattle.gh_kernel.specs.Instances.{instance}
 use Rattle.gh_kernel.specs.Laws.{Extends}
 use Rattle.gh_kernel.specs.Meaning.{seen, meaning, start}
 use Rattle.gh_kernel.specs.Programs.{Exp, Program, is_newtype, bound_to}
-use Rattle.gh_kernel.specs.States.{Rest, Trial, Focus, eval, matching, falling, Waiting, arg, under, tested, compared, decides, only, first, second, printing, State, head_of, with_args, reach_app, reach, reach_rows, reach_bodies, meet, args_of, after_args, string_args, list_cell, printed_list, settled_at, demand, choose}
-use Rattle.gh_kernel.specs.Steps.{go_on, goes_on, count, meet_constructor, match_pattern, match_next, fall, tell, decide, uncover, give, answer, go_to, conclude, print, supply, operands, operate, primitive_of, unfold_name, pass_all, pass_to, pass, enter, called, local_name, convert_to, act_eval, act_at, act_in, act, steps, with_todo}
-use Rattle.gh_kernel.specs.Terms.{Pat, pvar, pwild, pcon, plit, pstring, pas, Pats, no_pat, pat, Direction, TypeTerm, tylocal, var, top, con, lit, string, lam, app, lets, cases, call, redef, ann, whole, contents, convert, Exprs, Groups, no_group, group, Rows, no_row, row, Bodies, no_body, always, guarded}
-
-reach_app_out : (f e : Exp) (args stack : List Waiting) (out : List ℕ) → (reach_app f e args stack out).out ≡ out
-reach_app_out (var n x) whole_app args stack out = refl
-reach_app_out (top n x) whole_app args stack out = refl
-reach_app_out (con n c) whole_app args stack out = refl
-reach_app_out (lit n l) whole_app args stack out = refl
-reach_app_out (string n cs) whole_app args stack out = refl
-reach_app_out (lam n x body) whole_app args stack out = refl
-reach_app_out (app n f e) whole_app args stack out = refl
-reach_app_out (lets n gs body) whole_app args stack out = refl
-reach_app_out (cases n es rows) whole_app args stack out = refl
-reach_app_out (call n w t) whole_app args stack out = refl
-reach_app_out (redef n k text table body) whole_app args stack out = refl
-reach_app_out (ann n e t) whole_app args stack out = refl
-reach_app_out (whole e) whole_app args stack out = refl
-reach_app_out (contents c e) whole_app args stack out = refl
-reach_app_out (convert n d h generic t) whole_app args stack out = refl
-
-mutual
-  reach_out : (e : Exp) (stack : List Waiting) (out : List ℕ) → (reach e stack out).out ≡ out
-  reach_out (var n x) stack out = refl
-  reach_out (top n x) stack out = refl
-  reach_out (con n c) stack out = refl
-  reach_out (lit n l) stack out = refl
-  reach_out (string n cs) stack out = refl
-  reach_out (lam n x body) stack out = refl
-  reach_out (app n f e) stack out = reach_app_out (head_of f) (app n f e) (with_args f (arg e ∷ stack)) stack out
-  reach_out (lets n gs body) stack out = refl
-  reach_out (cases n es rows) stack out = reach_rows_out n es rows stack out
-  reach_out (call n w t) stack out = refl
-  reach_out (redef n k text table body) stack out = refl
-  reach_out (ann n e t) stack out = reach_out e stack out
-  reach_out (whole e) stack out = reach_out e stack out
-  reach_out (contents c e) stack out = reach_out e (under c ∷ stack) out
-  reach_out (convert n d h generic t) stack out = refl
-
-  reach_rows_out : (n : Span) (es : Exprs Span) (rows : Rows Span) (stack : List Waiting) (out : List ℕ) → (reach_rows n es rows stack out).out ≡ out
-  reach_rows_out n es no_row stack out = refl
-  reach_rows_out n es (row no_pat no_group bs rest) stack out = reach_bodies_out bs (record { place = n; args = es; rows = rest }) stack out
-  reach_rows_out n es (row no_pat (group g gs) bs rest) stack out = refl
-  reach_rows_out n es (row (pat p ps) gs bs rest) stack out = refl
-
-  reach_bodies_out : (bs : Bodies Span) (r : Rest) (stack : List Waiting) (out : List ℕ) → (reach_bodies bs r stack out).out ≡ out
-  reach_bodies_out no_body r stack out = refl
-  reach_bodies_out (always e more) r stack out = reach_out e stack out
-  reach_bodies_out (guarded g e more) r stack out = reach_out g (decides e more r ∷ stack) out
+use Rattle.gh_kernel.specs.States.{Rest, Trial, Focus, eval, matching, falling, Waiting, arg, under, tested, compared, decides, only, first, second, printing, State, at, reach, meet, args_of, after_args, string_args, list_cell, printed_list, settled_at, demand, choose}
+use Rattle.gh_kernel.specs.Steps.{goes_on, count, meet_constructor, match_pattern, match_next, fall, tell, decide, uncover, give, answer, go_to, conclude, print, supply, operate, primitive_of, unfold_name, enter, called, local_name, convert_to, act_eval, act_at, act_in, act, steps, with_todo}
+use Rattle.gh_kernel.specs.Terms.{Pat, pvar, pwild, pcon, plit, pstring, pas, Pats, no_pat, pat, Direction, TypeTerm, tylocal, var, top, con, lit, string, lam, app, lets, cases, call, redef, ann, whole, contents, convert, Rows, no_row, row, Bodies, no_body, always, guarded}
 
 list_cell_out : (isNil isCons : Bool) (es : List Exp) (s : State) → (list_cell isNil isCons es s).out ≡ s.out
 list_cell_out true true [] s = refl
@@ -73,7 +27,7 @@ list_cell_out true true (e ∷ es) s = refl
 list_cell_out true false (e ∷ es) s = refl
 list_cell_out false true [] s = refl
 list_cell_out false true (e ∷ []) s = refl
-list_cell_out false true (e ∷ rest ∷ []) s = reach_out e (printing rest ∷ []) s.out
+list_cell_out false true (e ∷ rest ∷ []) s = refl
 list_cell_out false true (e ∷ d ∷ c ∷ es) s = refl
 list_cell_out false false [] s = refl
 list_cell_out false false (e ∷ es) s = refl
@@ -105,18 +59,15 @@ settled_out (matching t) s = refl
 settled_out (falling r) s = refl
 
 demand_out : (e : Exp) (stack : List Waiting) (out : List ℕ) → (demand e stack out).out ≡ out
-demand_out e stack out = settled_out (reach e stack out).focus (reach e stack out) ∙ reach_out e stack out
+demand_out e stack out = settled_out (reach e) (at (reach e) stack out)
 
 choose_out : (bs : Bodies Span) (r : Rest) (stack : List Waiting) (out : List ℕ) → (choose bs r stack out).out ≡ out
-choose_out bs r stack out = settled_out (reach_bodies bs r stack out).focus (reach_bodies bs r stack out) ∙ reach_bodies_out bs r stack out
-
-go_on_out : (todo : List (Pat Span × Exp)) (σ : Env Span) (gs : Groups Span) (bs : Bodies Span) (r : Rest) (stack : List Waiting) (out : List ℕ) → (go_on todo σ gs bs r stack out).out ≡ out
-go_on_out (m ∷ todo) σ gs bs r stack out = refl
-go_on_out [] σ (group g gs) bs r stack out = refl
-go_on_out [] σ no_group bs r stack out = choose_out (close_bodies bs σ) r stack out
+choose_out no_body r stack out = refl
+choose_out (always e more) r stack out = demand_out e stack out
+choose_out (guarded g e more) r stack out = demand_out g (decides e more r ∷ stack) out
 
 goes_on_out : (todo : List (Pat Span × Exp)) (σ : Env Span) (t : Trial) (stack : List Waiting) (out : List ℕ) → (goes_on todo σ t stack out).out ≡ out
-goes_on_out todo σ t stack out = go_on_out todo σ t.groups t.bodies t.rest stack out
+goes_on_out todo σ t stack out = refl
 
 meet_constructor_out : (b : Bool) (c : Origin) (ps : Pats Span) (e : Exp) (t : Trial) (stack : List Waiting) (out : List ℕ) → (meet_constructor b c ps e t stack out).out ≡ out
 meet_constructor_out true c (pat p no_pat) e t stack out = goes_on_out ((p, contents c e) ∷ t.todo) t.bound t stack out
@@ -144,9 +95,7 @@ match_next_out p (m ∷ todo) t stack out = match_pattern_out p m.0 m.1 (with_to
 
 fall_out : (place : Span) (r : Rest) (rows : Rows Span) (stack : List Waiting) (s : State) → (fall place r rows stack s.out s).out ≡ s.out
 fall_out place r no_row stack s = refl
-fall_out place r (row ps gs bs rest) stack s =
-    settled_out (reach_rows place r.args (row ps gs bs rest) stack s.out).focus (reach_rows place r.args (row ps gs bs rest) stack s.out)
-    ∙ reach_rows_out place r.args (row ps gs bs rest) stack s.out
+fall_out place r (row ps gs bs rest) stack s = refl
 
 tell_out : (b : Bool) (todo : List (Pat Span × Exp)) (t : Trial) (stack : List Waiting) (out : List ℕ) → (tell b todo t stack out).out ≡ out
 tell_out true todo t stack out = goes_on_out todo t.bound t stack out
@@ -224,31 +173,6 @@ unfold_name_out : (p : Program) (q : Option Primitive) (n : Span) (x : TopName) 
 unfold_name_out p (Some q) n x stack s = operate_out q n (args_of stack) stack s
 unfold_name_out p None n x stack s = go_to_out (bound_to p.bindings x) stack s
 
-pass_all_out : (b : Bool) (f : Exp) (args : List Waiting) (s : State) → (pass_all b f args s.out s).out ≡ s.out
-pass_all_out true f args s = refl
-pass_all_out false f args s = refl
-
-pass_to_out : (q : Option Primitive) (f head : Exp) (args stack : List Waiting) (s : State) → (pass_to q f head args stack s.out s).out ≡ s.out
-pass_to_out None f head args stack s = demand_out f stack s.out
-pass_to_out (Some q) f head args stack s = pass_all_out (nat_le (operands q) (length (args_of args))) head args s
-
-pass_out : (head f : Exp) (args stack : List Waiting) (s : State) → (pass head f args stack s.out s).out ≡ s.out
-pass_out (var n x) g args stack s = demand_out g stack s.out
-pass_out (top n x) g args stack s = pass_to_out (primitive_of x) g (top n x) args stack s
-pass_out (con n c) g args stack s = demand_out g stack s.out
-pass_out (lit n l) g args stack s = demand_out g stack s.out
-pass_out (string n cs) g args stack s = demand_out g stack s.out
-pass_out (lam n x body) g args stack s = demand_out g stack s.out
-pass_out (app n f e) g args stack s = demand_out g stack s.out
-pass_out (lets n gs body) g args stack s = demand_out g stack s.out
-pass_out (cases n es rows) g args stack s = demand_out g stack s.out
-pass_out (call n w t) g args stack s = demand_out g stack s.out
-pass_out (redef n k text table body) g args stack s = demand_out g stack s.out
-pass_out (ann n e t) g args stack s = demand_out g stack s.out
-pass_out (whole e) g args stack s = demand_out g stack s.out
-pass_out (contents c e) g args stack s = demand_out g stack s.out
-pass_out (convert n d h generic t) g args stack s = demand_out g stack s.out
-
 enter_out : (x : ℕ) (body : Exp) (stack : List Waiting) (s : State) → (enter x body stack s.out s).out ≡ s.out
 enter_out x body [] s = refl
 enter_out x body (arg e ∷ stack) s = demand_out (close body (put empty x e)) stack s.out
@@ -261,17 +185,17 @@ enter_out x body (first b place e ∷ stack) s = refl
 enter_out x body (second b place m ∷ stack) s = refl
 enter_out x body (printing rest ∷ stack) s = refl
 
-convert_to_out : (p : Program) (n : Span) (d : Direction) (h : TyCon) (generic : ℕ) (t : TypeTerm Span) (stack : List Waiting) (s : State) → (convert_to p n d h generic t stack s.out s).out ≡ s.out
-convert_to_out p n d h generic t [] s = refl
-convert_to_out p n d h generic t (arg e ∷ stack) s = go_to_out (converted p.datatypes n d h generic t [] e) stack s
-convert_to_out p n d h generic t (under v ∷ stack) s = refl
-convert_to_out p n d h generic t (tested v ps u ∷ stack) s = refl
-convert_to_out p n d h generic t (compared m u ∷ stack) s = refl
-convert_to_out p n d h generic t (decides e more r ∷ stack) s = refl
-convert_to_out p n d h generic t (only u place ∷ stack) s = refl
-convert_to_out p n d h generic t (first b place e ∷ stack) s = refl
-convert_to_out p n d h generic t (second b place m ∷ stack) s = refl
-convert_to_out p n d h generic t (printing rest ∷ stack) s = refl
+convert_to_out : (p : Program) (d : Direction) (h : TyCon) (generic : ℕ) (t : TypeTerm Span) (stack : List Waiting) (s : State) → (convert_to p d h generic t stack s.out s).out ≡ s.out
+convert_to_out p d h generic t [] s = refl
+convert_to_out p d h generic t (arg e ∷ stack) s = go_to_out (converted p.datatypes d h generic t [] e) stack s
+convert_to_out p d h generic t (under v ∷ stack) s = refl
+convert_to_out p d h generic t (tested v ps u ∷ stack) s = refl
+convert_to_out p d h generic t (compared m u ∷ stack) s = refl
+convert_to_out p d h generic t (decides e more r ∷ stack) s = refl
+convert_to_out p d h generic t (only u place ∷ stack) s = refl
+convert_to_out p d h generic t (first b place e ∷ stack) s = refl
+convert_to_out p d h generic t (second b place m ∷ stack) s = refl
+convert_to_out p d h generic t (printing rest ∷ stack) s = refl
 
 act_eval_out : (p : Program) (e : Exp) (stack : List Waiting) (s : State) → Extends s.out (act_eval p e stack s.out s).out
 act_eval_out p (var n x) stack s = same_out s.out s.out refl
@@ -280,15 +204,15 @@ act_eval_out p (con n c) stack s = same_out s.out _ (give_out c (args_of stack) 
 act_eval_out p (lit n l) stack s = supply_out l stack s
 act_eval_out p (string n cs) stack s = same_out s.out _ (give_out (string_con cs) (string_args n cs) stack s)
 act_eval_out p (lam n x body) stack s = same_out s.out _ (enter_out x body stack s)
-act_eval_out p (app n f e) stack s = same_out s.out _ (pass_out (head_of f) f (with_args f (arg e ∷ stack)) (arg e ∷ stack) s)
+act_eval_out p (app n f e) stack s = same_out s.out _ (demand_out f (arg e ∷ stack) s.out)
 act_eval_out p (lets n gs body) stack s = same_out s.out _ (demand_out (close body (put_groups gs empty gs)) stack s.out)
 act_eval_out p (cases n es rows) stack s = same_out s.out s.out refl
 act_eval_out p (call n w t) stack s = same_out s.out _ (go_to_out (called p n w t []) stack s)
 act_eval_out p (redef n k text table body) stack s = same_out s.out _ (demand_out (instance (λ w. w) body (local_name k (tylocal k table))) stack s.out)
 act_eval_out p (ann n e t) stack s = same_out s.out s.out refl
 act_eval_out p (whole e) stack s = same_out s.out s.out refl
-act_eval_out p (contents c e) stack s = same_out s.out s.out refl
-act_eval_out p (convert n d h generic t) stack s = same_out s.out _ (convert_to_out p n d h generic t stack s)
+act_eval_out p (contents c e) stack s = same_out s.out _ (demand_out e (under c ∷ stack) s.out)
+act_eval_out p (convert n d h generic t) stack s = same_out s.out _ (convert_to_out p d h generic t stack s)
 
 act_at_out : (p : Program) (f : Focus) (stack : List Waiting) (s : State) → Extends s.out (act_at p f stack s.out s).out
 act_at_out p (eval e) stack s = act_eval_out p e stack s

@@ -1,5 +1,5 @@
 -- Worked typings.
-use Rattle.std.proofs.Common.{◌≡◌, ℕ, true, false, List, [], ◌∷◌, None, refl, sym, ap, ◌∙◌, arith}
+use Rattle.std.proofs.Common.{◌≡◌, ℕ, true, false, List, [], ◌∷◌, Some, None, refl, sym, ap, ◌∙◌, arith}
 use Rattle.gh_base.specs.declared.place.Span.{Span}
 use Rattle.gh_core.specs.Terms.{char}
 use Rattle.gh_typeterm.specs.declared.kind.Kind.{Kind}
@@ -8,7 +8,7 @@ use Rattle.gh_unify.specs.Types as ty
 use Rattle.gh_unify.specs.Types.{Mono}
 use Rattle.gh_kernel.specs.Nodes.{nodes}
 use Rattle.gh_kernel.specs.Terms.{Expr, var, lit, lam, app, lets, group, no_group, bind, no_bind}
-use Rattle.gh_kernel.specs.Types.{Given, arrow, char_type, assigned, monomorphic, local, occurs_in}
+use Rattle.gh_kernel.specs.Types.{Given, TypeName, arrow, char_type, assigned, monomorphic, local, occurs_in}
 use Rattle.gh_kernel.specs.Typing.{Typed, loose, IsTyped}
 
 abbrev place : Span
@@ -36,10 +36,13 @@ identity_twice = lets (noted char_type [])
     (app (noted char_type []) (app (noted (id_at char_type) []) (var (noted (id_at (id_at char_type)) (id_at char_type ∷ [])) 0) (var (noted (id_at char_type) (char_type ∷ [])) 0))
     (lit (noted char_type []) (char 99)))
 
+absurd_names : (k : ℕ) (t : TypeName) → None ≡ Some t → ⊥
+absurd_names k t e = cc
+
 pub identity_twice_typed : IsTyped loose nothing_given star 100 [] (λ k. None) identity_twice
 identity_twice_typed =
     let good : Unit {0} × Unit {0} = (tt, tt) in (
-      (((a, (λ h. (good, (refl, refl))), (λ h. (good, refl))), (λ h. (good, refl)), tt), ((refl, λ k d h. refl), tt), tt),
+      ((good, (a, good, (λ h. (good, (refl, refl))), (λ h. (good, refl))), (λ h. (good, refl)), tt), ((refl, ((λ k d h. refl), (λ k d h. λ j t e. absurd (absurd_names j t e))), tt), tt), tt),
       (((λ h. (good, ((tt, refl), refl))), (λ h. (good, ((tt, refl), refl))), (λ h. (good, refl))), (λ h. (good, refl)), (λ h. (good, refl))),
       (λ h. (good, refl)),
     )
@@ -56,25 +59,25 @@ outer_variable = refl
 pub quantified_variable : occurs_in ((local 0, record { vars = 0 ∷ []; kinds = Star ∷ []; ty = a }) ∷ []) 0 ≡ false
 quantified_variable = refl
 
-inst_nothing : (t : Mono) → ty.inst (assigned [] []) t ≡ t
+pub inst_nothing : (t : Mono) → ty.inst (assigned [] []) t ≡ t
 inst_nothing (ty.con c) = refl
 inst_nothing (ty.var v) = refl
 inst_nothing (ty.app f u) = λ i. ty.app (inst_nothing f i) (inst_nothing u i)
 inst_nothing (ty.name k) = refl
 
-endless : (t u : Mono) → t ≡ arrow t u → ⊥
+pub endless : (t u : Mono) → t ≡ arrow t u → ⊥
 endless t u e = let n : ty.nodes t ≡ ty.nodes (arrow t u) = ap ty.nodes e in absurd (omega (arith, n))
 
 -- no notes type \x -> x x
 pub self_application : (m o p q : Typed) → IsTyped loose nothing_given star 4 [] (λ k. None) (lam m 0 (app o (var p 0) (var q 0))) → ⊥
 self_application m o p q h =
-    let first : p.ty ≡ h.0 = (h.1.0 (omega arith)).1.1 ∙ inst_nothing h.0 in
-    let second : q.ty ≡ h.0 = (h.1.1 (omega arith)).1.1 ∙ inst_nothing h.0 in
-    let both : p.ty ≡ arrow q.ty o.ty = (h.1.2 (omega arith)).1 in
+    let first : p.ty ≡ h.0 = (h.2.0 (omega arith)).1.1 ∙ inst_nothing h.0 in
+    let second : q.ty ≡ h.0 = (h.2.1 (omega arith)).1.1 ∙ inst_nothing h.0 in
+    let both : p.ty ≡ arrow q.ty o.ty = (h.2.2 (omega arith)).1 in
     endless h.0 o.ty (sym first ∙ both ∙ ap (λ t. arrow t o.ty) second)
 
 -- up to its third node it has a typing: only the application fails
 pub self_application_before : IsTyped loose nothing_given star 2 [] (λ k. None) (lam (noted a []) 0 (app (noted a []) (var (noted a []) 0) (var (noted a []) 0)))
 self_application_before =
     let good : Unit {0} × Unit {0} = (tt, tt) in
-    (a, ((λ h. (good, (refl, refl))), (λ h. (good, (refl, refl))), (λ h. absurd (omega (arith, h)))), (λ h. absurd (omega (arith, h))))
+    (a, good, ((λ h. (good, (refl, refl))), (λ h. (good, (refl, refl))), (λ h. absurd (omega (arith, h)))), (λ h. absurd (omega (arith, h))))

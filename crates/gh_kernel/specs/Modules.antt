@@ -1,5 +1,5 @@
 -- Typings of whole programs, module by module in link order.
-use Rattle.std.specs.Prelude.{◌≡◌, ◌⊎◌, ℕ, suc, ◌+◌, ◌-◌, ◌≤◌, Bool, false, cond, ◌==◌, List, [], ◌∷◌, ◌++◌, length, map, Option, Some, None}
+use Rattle.std.specs.Prelude.{◌≡◌, ◌⊎◌, ℕ, zero, suc, ◌+◌, ◌-◌, ◌≤◌, Bool, true, false, cond, ◌==◌, List, [], ◌∷◌, ◌++◌, length, map, Option, Some, None}
 use Rattle.gh_base.specs.declared.fixed.TheConstants.{CON, CON_DESCR}
 use Rattle.gh_base.specs.declared.place.Origin.{Origin}
 use Rattle.gh_base.specs.declared.place.Span.{Span}
@@ -19,9 +19,9 @@ use Rattle.gh_kernel.specs.declared.signatures.Signed.{Signed}
 use Rattle.gh_kernel.specs.Nodes.{nodes, noted}
 use Rattle.gh_kernel.specs.Reading.{term_of}
 use Rattle.gh_kernel.specs.Terms.{Expr}
-use Rattle.gh_kernel.specs.Types.{arrow, applied_to, of_prelude, Given, Scope, global, TypeName, TypeNames, item, primitive_scope, function_among, base_at, places_from}
+use Rattle.gh_kernel.specs.Types.{arrow, applied_to, of_prelude, Given, Scope, occurs_in, global, TypeName, TypeNames, item, primitive_scope, function_among, base_at, places_from}
 use Rattle.gh_kernel.specs.Typing as typing
-use Rattle.gh_kernel.specs.Typing.{Typed, Rules, root, Member, signed_in, unsigned_in, inside, IsTyped, Node, Closes, outside, after, AreDistinct, HaveKinds}
+use Rattle.gh_kernel.specs.Typing.{Typed, Rules, root, Member, signed_in, unsigned_in, inside, IsTyped, Node, Closes, outside, after, AreFresh, HaveKinds}
 
 -- a program's text with notes, module by module ----------------------------------------------------------------------------
 
@@ -108,6 +108,27 @@ abbrev pub flat : {A : Type 0} → List (List A) → List A
 flat [] = []
 flat (xs ∷ rest) = xs ++ flat rest
 
+-- so many numbers from the first one on
+abbrev pub numbers_from : ℕ → ℕ → List ℕ
+numbers_from i zero = []
+numbers_from i (suc n) = i ∷ numbers_from (suc i) n
+
+-- the rigid variables of the parameters of a case, one for each generic variable
+abbrev pub parameter_variables : (first generic : ℕ) → ℕ → List (List ℕ)
+parameter_variables i r zero = []
+parameter_variables i r (suc m) = numbers_from i r ∷ parameter_variables (i + r) r m
+
+-- the rigid variables of a case have fixed numbers: those of its parameters from 0 on, parameter by parameter
+abbrev pub case_parameters : GenFun → Clause Typed → List (List ℕ)
+case_parameters f c = parameter_variables 0 (length f.generic) c.names
+
+-- and then those of the non-generic variables
+abbrev pub case_others : GenFun → Clause Typed → List ℕ
+case_others f c = numbers_from (length (flat (case_parameters f c))) (length f.other)
+
+abbrev pub case_variables : GenFun → Clause Typed → List ℕ
+case_variables f c = flat (case_parameters f c) ++ case_others f c
+
 abbrev pub variable_or : Option ℕ → Mono
 variable_or None = ty.name 0
 variable_or (Some v) = ty.var v
@@ -140,13 +161,13 @@ module _ (R : Rules) (G : Given) (κ : ℕ → Kind) where
   abbrev pub TopsTyped : ℕ → Scope → List (Top Typed) → Type 0
   TopsTyped n Γ [] = Unit {0}
   TopsTyped n Γ (b ∷ bs) =
-      IsTyped R G κ n Γ (λ k. None) b.body × Node R G κ n (nodes b.body) b.note (typing.Binding R G κ Γ b.signature b.note (root b.body))
+      typing.IsFine R G κ b.note.ty × IsTyped R G κ n Γ (λ k. None) b.body × Node R G κ n (nodes b.body) b.note (typing.Binding R G κ Γ (λ k. None) b.signature b.note (root b.body))
       × TopsTyped (n - suc (nodes b.body)) Γ bs
 
   abbrev pub GroupsTyped : ℕ → Scope → List (List (Top Typed)) → Type 0
   GroupsTyped n Γ [] = Unit {0}
   GroupsTyped n Γ (g ∷ gs) =
-      TopsTyped n (unsigned_in inside (map member g) Γ) g × Closes R G κ Γ (map member g)
+      TopsTyped n (unsigned_in inside (map member g) Γ) g × Closes R G κ Γ (λ k. None) (map member g)
       × GroupsTyped (n - group_nodes g) (unsigned_in (outside R G κ) (map member g) Γ) gs
 
   -- the parameters of the head have these kinds
@@ -162,20 +183,29 @@ module _ (R : Rules) (G : Given) (κ : ℕ → Kind) where
   ParameterKinds f (vs ∷ names) [] = ⊥
   ParameterKinds f (vs ∷ names) (k ∷ ks) = HaveKinds R G κ (map ty.var vs) (map (λ v. k) f.generic) × ParameterKinds f names ks
 
-  -- the rigid variables of a case: those of its parameters and those of the non-generic variables, all different
-  pub record IsHeld (f : GenFun) (c : Clause Typed) (names : List (List ℕ)) (others : List ℕ) : Type 0 where
-    pub count : length names ≡ c.names
-    pub kinds : (ks : List Kind) × HeadKinds c.head ks × ParameterKinds f names ks
-    pub others_kinds : HaveKinds R G κ (map ty.var others) (map (λ v. Star) f.other)
-    pub different : AreDistinct R G κ (flat names ++ others)
+  -- the rigid variables of a case have the kinds of the parameters and of the non-generic variables, and occur in no type of
+  -- a name bound outside
+  pub record IsHeld (f : GenFun) (c : Clause Typed) (Γ : Scope) : Type 0 where
+    pub kinds : (ks : List Kind) × HeadKinds c.head ks × ParameterKinds f (case_parameters f c) ks
+    pub others_kinds : HaveKinds R G κ (map ty.var (case_others f c)) (map (λ v. Star) f.other)
+    pub fresh : AreFresh R G κ Γ (λ k. None) (case_variables f c)
 
   -- the body of a case has its base type, which is asked at the root of the body
+  abbrev pub BodyTyped : ℕ → Scope → GenFun → Clause Typed → Type 0
+  BodyTyped n Γ f c =
+      IsHeld f c Γ
+      × IsTyped R G κ n Γ (parameters (case_parameters f c) (case_others f c)) c.body
+      × (nodes c.body ≤ n → root c.body ≡ body_type f c.head (case_parameters f c) (case_others f c))
+
+-- kinds of variables that are those of others where a variable occurs in the type of a name in scope
+abbrev pub AgreeIn : Scope → (κ κ' : ℕ → Kind) → Type 0
+AgreeIn Γ κ κ' = (v : ℕ) → occurs_in Γ v ≡ true → κ' v ≡ κ v
+
+module _ (R : Rules) (G : Given) (κ : ℕ → Kind) where
+  -- the variables of a case have kinds of their own
   abbrev pub CaseTyped : ℕ → Scope → Option GenFun → Clause Typed → Type 0
   CaseTyped n Γ None c = ⊥
-  CaseTyped n Γ (Some f) c =
-      (names : List (List ℕ)) × (others : List ℕ) × IsHeld f c names others
-      × IsTyped R G κ n Γ (parameters names others) c.body
-      × (nodes c.body ≤ n → root c.body ≡ body_type f c.head names others)
+  CaseTyped n Γ (Some f) c = (κ' : ℕ → Kind) × AgreeIn Γ κ κ' × BodyTyped R G κ' n Γ f c
 
   abbrev pub CasesTyped : ℕ → Scope → List (Clause Typed) → Type 0
   CasesTyped n Γ [] = Unit {0}
@@ -189,7 +219,7 @@ module _ (R : Rules) (G : Given) (κ : ℕ → Kind) where
   abbrev pub ModulesTyped : ℕ → Scope → List (Module Typed) → Type 0
   ModulesTyped n Γ [] = Unit {0}
   ModulesTyped n Γ (m ∷ ms) =
-      GroupsTyped n (signed_in (all_of m.groups) Γ) m.groups
+      GroupsTyped R G κ n (signed_in (all_of m.groups) Γ) m.groups
       × CasesTyped (n - groups_nodes m.groups) (module_scope m Γ) m.cases
       × ModulesTyped (n - (groups_nodes m.groups + cases_nodes m.cases)) (module_scope m Γ) ms
 

@@ -7,7 +7,7 @@ use Rattle.gh_core.specs.Reduce.{Status, running, ended, string_con}
 use Rattle.gh_core.specs.Terms.{Literal, char}
 use Rattle.gh_kernel.specs.Closing.{Env, empty}
 use Rattle.gh_kernel.specs.Programs.{Exp}
-use Rattle.gh_kernel.specs.Terms.{Pat, Pats, no_pat, pat, var, top, con, lit, string, lam, app, lets, cases, call, redef, ann, whole, contents, convert, Exprs, no_expr, expr, Groups, no_group, group, Rows, no_row, row, Bodies, no_body, always, guarded}
+use Rattle.gh_kernel.specs.Terms.{Pat, Pats, no_pat, pat, var, top, con, lit, string, lam, app, lets, cases, call, redef, ann, whole, contents, convert, Exprs, no_expr, expr, Groups, Rows, no_row, row, Bodies, no_body, always, guarded}
 
 -- what a case goes on with where the row at hand fails: the rows after it, on the arguments as they were
 pub record Rest : Type 0 where
@@ -68,22 +68,8 @@ at focus stack out = record { focus = focus; stack = stack; out = out; status = 
 abbrev pub with_status : Status → State → State
 with_status status s = record { focus = s.focus; stack = s.stack; out = s.out; status = status }
 
--- the head of a nest of applications; marks and annotations play no part
-abbrev pub head_of : Exp → Exp
-head_of (app n f e) = head_of f
-head_of (whole e) = head_of e
-head_of (ann n e s) = head_of e
-head_of e = e
-
--- its arguments, before what waits already
-abbrev pub with_args : Exp → List Waiting → List Waiting
-with_args (app n f e) stack = with_args f (arg e ∷ stack)
-with_args (whole e) stack = with_args e stack
-with_args (ann n e s) stack = with_args e stack
-with_args e stack = stack
-
--- the patterns with the terms that they meet
-abbrev pub meet : Pats Span → List Exp → List (Pat Span × Exp) → List (Pat Span × Exp)
+-- the patterns with what they meet
+abbrev pub meet : {E : Type 0} → Pats Span → List E → List (Pat Span × E) → List (Pat Span × E)
 meet no_pat es todo = todo
 meet (pat p ps) [] todo = todo
 meet (pat p ps) (e ∷ es) todo = (p, e) ∷ meet ps es todo
@@ -92,44 +78,31 @@ abbrev pub listed : Exprs Span → List Exp
 listed no_expr = []
 listed (expr e rest) = e ∷ listed rest
 
--- an application of a constructor is a value: the constructor with its arguments
-abbrev pub reach_app : Exp → Exp → List Waiting → List Waiting → List ℕ → State
-reach_app (con n c) e args stack out = at (eval (con n c)) args out
-reach_app f e args stack out = at (eval e) stack out
-
 abbrev pub trial : List (Pat Span × Exp) → Groups Span → Bodies Span → Span → Exprs Span → Rows Span → Trial
 trial todo gs bs n es rest = record { todo = todo; bound = empty; groups = gs; bodies = bs; rest = record { place = n; args = es; rows = rest } }
 
--- the place that the demand of a term comes to without any step: through marks and annotations, into the contents of
--- newtypes, to the first pattern of a case, or to its first guard or body where there is nothing to match
-abbrev mutual
-  pub reach : Exp → List Waiting → List ℕ → State
-  reach (whole e) stack out = reach e stack out
-  reach (ann n e s) stack out = reach e stack out
-  reach (contents c e) stack out = reach e (under c ∷ stack) out
-  reach (cases n es rows) stack out = reach_rows n es rows stack out
-  reach (app n f e) stack out = reach_app (head_of f) (app n f e) (with_args f (arg e ∷ stack)) stack out
-  reach (var n x) stack out = at (eval (var n x)) stack out
-  reach (top n x) stack out = at (eval (top n x)) stack out
-  reach (con n c) stack out = at (eval (con n c)) stack out
-  reach (lit n l) stack out = at (eval (lit n l)) stack out
-  reach (string n cs) stack out = at (eval (string n cs)) stack out
-  reach (lam n x body) stack out = at (eval (lam n x body)) stack out
-  reach (lets n gs body) stack out = at (eval (lets n gs body)) stack out
-  reach (call n w t) stack out = at (eval (call n w t)) stack out
-  reach (redef n k text table body) stack out = at (eval (redef n k text table body)) stack out
-  reach (convert n d h generic t) stack out = at (eval (convert n d h generic t)) stack out
+-- a case begins with its first row
+abbrev pub begin_rows : Span → Exprs Span → Rows Span → Focus
+begin_rows n es no_row = falling (record { place = n; args = es; rows = no_row })
+begin_rows n es (row ps gs bs rest) = matching (trial (meet ps (listed es) []) gs bs n es rest)
 
-  pub reach_rows : Span → Exprs Span → Rows Span → List Waiting → List ℕ → State
-  reach_rows n es no_row stack out = at (falling (record { place = n; args = es; rows = no_row })) stack out
-  reach_rows n es (row no_pat no_group bs rest) stack out = reach_bodies bs (record { place = n; args = es; rows = rest }) stack out
-  reach_rows n es (row no_pat (group g gs) bs rest) stack out = at (matching (trial [] (group g gs) bs n es rest)) stack out
-  reach_rows n es (row (pat p ps) gs bs rest) stack out = at (matching (trial (meet (pat p ps) (listed es) []) gs bs n es rest)) stack out
-
-  pub reach_bodies : Bodies Span → Rest → List Waiting → List ℕ → State
-  reach_bodies no_body r stack out = at (falling r) stack out
-  reach_bodies (always e more) r stack out = reach e stack out
-  reach_bodies (guarded g e more) r stack out = reach g (decides e more r ∷ stack) out
+-- what is done for a term that is demanded: marks and annotations cost nothing, and a case is at its first row
+abbrev pub reach : Exp → Focus
+reach (whole e) = reach e
+reach (ann n e s) = reach e
+reach (cases n es rows) = begin_rows n es rows
+reach (var n x) = eval (var n x)
+reach (top n x) = eval (top n x)
+reach (con n c) = eval (con n c)
+reach (lit n l) = eval (lit n l)
+reach (string n cs) = eval (string n cs)
+reach (lam n x body) = eval (lam n x body)
+reach (app n f e) = eval (app n f e)
+reach (lets n gs body) = eval (lets n gs body)
+reach (call n w t) = eval (call n w t)
+reach (redef n k text table body) = eval (redef n k text table body)
+reach (contents c e) = eval (contents c e)
+reach (convert n d h generic t) = eval (convert n d h generic t)
 
 -- the arguments that wait, the first first, and what waits behind them
 abbrev pub args_of : List Waiting → List Exp
@@ -148,7 +121,7 @@ string_args n (c ∷ cs) = lit n (char c) ∷ string n cs ∷ []
 -- the printed list as far as it is known: at its end the run has ended, and at a cell the character is demanded
 abbrev pub list_cell : Bool → Bool → List Exp → State → State
 list_cell true isCons [] s = with_status ended s
-list_cell false true (e ∷ rest ∷ []) s = reach e (printing rest ∷ []) s.out
+list_cell false true (e ∷ rest ∷ []) s = at (reach e) (printing rest ∷ []) s.out
 list_cell isNil isCons es s = s
 
 abbrev pub printed_list : Origin → List Exp → List Waiting → State → State
@@ -166,8 +139,10 @@ settled s = settled_at s.focus s
 
 -- the demand of a term
 abbrev pub demand : Exp → List Waiting → List ℕ → State
-demand e stack out = settled (reach e stack out)
+demand e stack out = settled (at (reach e) stack out)
 
--- the demand of a row's bodies
+-- the demand of a row's bodies: of the first guard, or of a body without one; where none is left, the row has failed
 abbrev pub choose : Bodies Span → Rest → List Waiting → List ℕ → State
-choose bs r stack out = settled (reach_bodies bs r stack out)
+choose no_body r stack out = at (falling r) stack out
+choose (always e more) r stack out = demand e stack out
+choose (guarded g e more) r stack out = demand g (decides e more r ∷ stack) out

@@ -1,5 +1,5 @@
 -- The type-passing meaning, one act at a time: call by name, by substitution, at the place that is demanded.
-use Rattle.std.specs.Prelude.{ℕ, zero, suc, Bool, true, false, cond, ◌==◌, ◌&&◌, nat_le, List, [], ◌∷◌, ◌++◌, Option, Some, None, length, drop, pos}
+use Rattle.std.specs.Prelude.{ℕ, zero, suc, Bool, true, false, cond, ◌==◌, ◌&&◌, List, [], ◌∷◌, ◌++◌, Option, Some, None, length, drop, pos}
 use Rattle.std.specs.Char.{encode_utf8}
 use Rattle.gh_base.specs.Ids.{text_in}
 use Rattle.gh_base.specs.declared.fixed.TheConstants.{TRUE, FALSE, CON_DESCR}
@@ -14,23 +14,17 @@ use Rattle.gh_core.specs.Reduce.{Status, running, ended, failed, same_literal, s
 use Rattle.gh_kernel.specs.declared.names.TopName.{TopName}
 use Rattle.gh_kernel.specs.declared.names.TopName.TheVariants as name
 use Rattle.gh_kernel.specs.Closing.{Env, empty, without, close, close_bodies, close_groups, put, put_groups, groups_bind}
-use Rattle.gh_kernel.specs.Conversions.{converted, made, one_pattern}
+use Rattle.gh_kernel.specs.Conversions.{converted, made, nowhere, one_pattern}
 use Rattle.gh_kernel.specs.Instances.{nth, type_at, instance}
 use Rattle.gh_kernel.specs.Programs.{Exp, Constructor, Datatype, Function, Program, bound_to, datatype_of, function_of, constructor_of, is_newtype, is_one_of, is_structural, entry_of, case_of, written}
-use Rattle.gh_kernel.specs.States.{Rest, Trial, Focus, eval, matching, falling, Waiting, arg, under, tested, compared, decides, only, first, second, printing, State, at, with_status, head_of, with_args, meet, listed, reach_rows, args_of, after_args, string_args, settled, demand, choose}
-use Rattle.gh_kernel.specs.Terms.{Pat, pvar, pwild, pcon, plit, pstring, pas, Pats, no_pat, pat, Direction, to_data, TypeTerm, tycon, tyapp, tylocal, var, top, con, lit, string, lam, app, lets, cases, call, redef, ann, whole, contents, convert, Groups, no_group, group, Rows, no_row, row, Bodies}
+use Rattle.gh_kernel.specs.States.{Rest, Trial, Focus, eval, matching, falling, Waiting, arg, under, tested, compared, decides, only, first, second, printing, State, at, with_status, meet, begin_rows, args_of, after_args, string_args, demand, choose}
+use Rattle.gh_kernel.specs.Terms.{Pat, pvar, pwild, pcon, plit, pstring, pas, Pats, no_pat, pat, Direction, to_data, TypeTerm, tycon, tyapp, tyname, tylocal, var, top, con, lit, string, lam, app, lets, cases, call, redef, ann, whole, contents, convert, Groups, Rows, no_row, row, Bodies}
 
 -- matching -----------------------------------------------------------------------------------------------------------
 
--- the row goes on with these patterns and these variables: where none is left, with its groups, and where there are
--- none, with its bodies
-abbrev pub go_on : List (Pat Span × Exp) → Env Span → Groups Span → Bodies Span → Rest → List Waiting → List ℕ → State
-go_on (m ∷ todo) σ gs bs r stack out = at (matching (record { todo = m ∷ todo; bound = σ; groups = gs; bodies = bs; rest = r })) stack out
-go_on [] σ (group g gs) bs r stack out = at (matching (record { todo = []; bound = σ; groups = group g gs; bodies = bs; rest = r })) stack out
-go_on [] σ no_group bs r stack out = choose (close_bodies bs σ) r stack out
-
+-- the row goes on with these patterns and these variables
 abbrev pub goes_on : List (Pat Span × Exp) → Env Span → Trial → List Waiting → List ℕ → State
-goes_on todo σ t stack out = go_on todo σ t.groups t.bodies t.rest stack out
+goes_on todo σ t stack out = at (matching (record { todo = todo; bound = σ; groups = t.groups; bodies = t.bodies; rest = t.rest })) stack out
 
 abbrev pub with_todo : List (Pat Span × Exp) → Trial → Trial
 with_todo todo t = record { todo = todo; bound = t.bound; groups = t.groups; bodies = t.bodies; rest = t.rest }
@@ -55,7 +49,7 @@ match_pattern p (plit n l) e t stack out = demand e (compared l t ∷ stack) out
 match_pattern p (pstring n []) e t stack out = demand e (tested nil no_pat t ∷ stack) out
 match_pattern p (pstring n (c ∷ cs)) e t stack out = demand e (tested cons (pat (plit n (char c)) (one_pattern (pstring n cs))) t ∷ stack) out
 
--- the groups of a row whose patterns match are entered
+-- the groups of a row whose patterns match are entered, also where it has none
 abbrev pub enter_groups : Groups Span → Bodies Span → Env Span → Rest → List Waiting → List ℕ → State
 enter_groups gs bs σ r stack out =
     let hidden = without σ (groups_bind gs) in
@@ -69,7 +63,7 @@ match_next p (m ∷ todo) t stack out = match_pattern p m.0 m.1 (with_todo todo 
 -- a row that fails falls to the next, and where no row is left, the match fails
 abbrev pub fall : Span → Rest → Rows Span → List Waiting → List ℕ → State → State
 fall place r no_row stack out s = with_status (failed no_match place) s
-fall place r (row ps gs bs rest) stack out s = settled (reach_rows place r.args (row ps gs bs rest) stack out)
+fall place r (row ps gs bs rest) stack out s = at (begin_rows place r.args (row ps gs bs rest)) stack out
 
 -- values and what waits for them -----------------------------------------------------------------------------------------
 
@@ -95,6 +89,7 @@ give c es (tested d ps t ∷ stack) out s = tell (same_origin c d && (count ps =
 give c es (decides e more r ∷ stack) out s =
     decide (same_origin c (prelude_value TRUE)) (same_origin c (prelude_value FALSE)) es e more r stack out s
 give c es (under d ∷ stack) out s = uncover (same_origin c d) es stack out s
+give c es (compared m t ∷ stack) out s = at (falling t.rest) stack out
 give c es stack out s = s
 
 -- what a primitive makes of its operands, as a term of the kernel
@@ -122,6 +117,7 @@ print (int n) rest stack out s = s
 -- a literal, and what waits for it
 abbrev pub supply : Literal → List Waiting → List ℕ → State → State
 supply l (compared m t ∷ stack) out s = tell (same_literal l m) t.todo t stack out
+supply l (tested d ps t ∷ stack) out s = at (falling t.rest) stack out
 supply l (only u place ∷ stack) out s = conclude (unary_outcome u l) place stack out s
 supply l (first b place e ∷ stack) out s = demand e (second b place l ∷ stack) out
 supply l (second b place m ∷ stack) out s = conclude (binary_outcome b m l) place stack out s
@@ -151,20 +147,6 @@ abbrev pub unfold_name : Program → Option Primitive → Span → TopName → L
 unfold_name p (Some q) n x stack out s = operate q n (args_of stack) stack out s
 unfold_name p None n x stack out s = go_to (bound_to p.bindings x) stack out s
 
--- an application of a primitive with all its operands is passed the demand once; with too few it is a value
-abbrev pub pass_all : Bool → Exp → List Waiting → List ℕ → State → State
-pass_all true f args out s = at (eval f) args out
-pass_all false f args out s = s
-
-abbrev pub pass_to : Option Primitive → Exp → Exp → List Waiting → List Waiting → List ℕ → State → State
-pass_to None f head args stack out s = demand f stack out
-pass_to (Some q) f head args stack out s = pass_all (nat_le (operands q) (length (args_of args))) head args out s
-
--- the demand passes from an application to its function
-abbrev pub pass : Exp → Exp → List Waiting → List Waiting → List ℕ → State → State
-pass (top n x) f args stack out s = pass_to (primitive_of x) f (top n x) args stack out s
-pass head f args stack out s = demand f stack out
-
 -- a function takes one argument
 abbrev pub enter : ℕ → Exp → List Waiting → List ℕ → State → State
 enter x body (arg e ∷ stack) out s = demand (close body (put empty x e)) stack out
@@ -192,37 +174,46 @@ described p n head.Arrow e = Some e
 described p n head.Int e = Some e
 described p n head.Char e = Some e
 
-abbrev pub declared : Option Datatype → List (TypeTerm Span) → Option (TypeTerm Span)
-declared None ts = None
-declared (Some d) ts = Some (type_at (nth ts) d.representation)
+-- a type over the parameters of a datatype, with type names for these
+abbrev pub with_names : TypeTerm Span → TypeTerm Span
+with_names = type_at (λ v. Some (tyname v))
 
-abbrev pub only_type : Bool → List (TypeTerm Span) → Option (TypeTerm Span)
-only_type true (t ∷ []) = Some t
-only_type listed ts = None
+abbrev pub declared : Option Datatype → Option (TypeTerm Span)
+declared None = None
+declared (Some d) = Some (with_names d.representation)
 
--- the type that represents a type constructor at these types, for this function: a datatype's representation, but for the
--- types that representations are made of; a constructor's layer stands for what is under it, where the function has
--- itself among its dependencies
-abbrev pub representation : Program → Function → TyCon → List (TypeTerm Span) → Option (TypeTerm Span)
-representation p f (head.Named c) ts = cond (is_structural c) None (declared (datatype_of p.datatypes c) ts)
-representation p f (head.ConOf c) ts = only_type (is_one_of f.dependencies f.name) ts
-representation p f head.Arrow ts = None
-representation p f head.Int ts = None
-representation p f head.Char ts = None
+-- the type that represents a type constructor for this function, with type names for its parameters: a datatype's
+-- representation, but for the types that representations are made of; a constructor's layer stands for what is under it,
+-- where the function has itself among its dependencies
+abbrev pub representation : Program → Function → TyCon → Option (TypeTerm Span)
+representation p f (head.Named c) = cond (is_structural c) None (declared (datatype_of p.datatypes c))
+representation p f (head.ConOf c) = cond (is_one_of f.dependencies f.name) (Some (tyname 0)) None
+representation p f head.Arrow = None
+representation p f head.Int = None
+representation p f head.Char = None
 
--- the call at the representation, converted at the function's base type
-abbrev pub converted_call : Span → Origin → TyCon → Function → Option (TypeTerm Span) → Option Exp
-converted_call n w h f None = None
-converted_call n w h f (Some t) = Some (app n (convert n to_data h f.generic f.base) (call n w t))
+-- the body of a function at a type constructor without a case: the call at the representation, converted at the function's
+-- base type. It has type names for the parameters, as the body of a case has, and it is one for all calls
+abbrev pub body_at : TyCon → Function → TypeTerm Span → Exp
+body_at h f t = app nowhere (convert nowhere to_data h f.generic f.base) (call nowhere f.name t)
 
-abbrev pub adapted : Program → Span → Origin → TyCon → List (TypeTerm Span) → Option Function → Option Exp
-adapted p n w h ts None = None
-adapted p n w h ts (Some f) = converted_call n w h f (representation p f h ts)
+abbrev pub converted_call : TyCon → Function → Option (TypeTerm Span) → Option Exp
+converted_call h f None = None
+converted_call h f (Some t) = Some (body_at h f t)
 
--- a call at a type constructor: to the body of its case, the type names replaced by the arguments, or where there is no
--- case to the call at the representation
+abbrev pub body_without_case : Program → TyCon → Option Function → Option Exp
+body_without_case p h None = None
+body_without_case p h (Some f) = converted_call h f (representation p f h)
+
+-- its type names replaced by the arguments
+abbrev pub adapted : List (TypeTerm Span) → Option Exp → Option Exp
+adapted ts None = None
+adapted ts (Some e) = Some (instance (λ w. w) e (nth ts))
+
+-- a call at a type constructor: to the body of its case, or else to the body without a case, the type names replaced by the
+-- arguments
 abbrev pub called_at : Program → Span → Origin → TyCon → List (TypeTerm Span) → Option ((Origin → Origin) × Exp) → Option Exp
-called_at p n w h ts None = adapted p n w h ts (function_of p.functions w)
+called_at p n w h ts None = adapted ts (body_without_case p h (function_of p.functions w))
 called_at p n w h ts (Some c) = described p n h (instance c.0 c.1 (nth ts))
 
 -- what a call goes to, its type with the arguments that it is applied to; at a local name, the term in its table
@@ -237,9 +228,9 @@ abbrev pub local_name : ℕ → TypeTerm Span → ℕ → Option (TypeTerm Span)
 local_name k t j = cond (j == k) (Some t) None
 
 -- a conversion applied to a term
-abbrev pub convert_to : Program → Span → Direction → TyCon → ℕ → TypeTerm Span → List Waiting → List ℕ → State → State
-convert_to p n d h generic t (arg e ∷ stack) out s = go_to (converted p.datatypes n d h generic t [] e) stack out s
-convert_to p n d h generic t stack out s = s
+abbrev pub convert_to : Program → Direction → TyCon → ℕ → TypeTerm Span → List Waiting → List ℕ → State → State
+convert_to p d h generic t (arg e ∷ stack) out s = go_to (converted p.datatypes d h generic t [] e) stack out s
+convert_to p d h generic t stack out s = s
 
 -- one act ---------------------------------------------------------------------------------------------------------------
 
@@ -249,16 +240,16 @@ act_eval p (con n c) stack out s = give c (args_of stack) (after_args stack) out
 act_eval p (lit n l) stack out s = supply l stack out s
 act_eval p (string n cs) stack out s = give (string_con cs) (string_args n cs) stack out s
 act_eval p (lam n x body) stack out s = enter x body stack out s
-act_eval p (app n f e) stack out s = pass (head_of f) f (with_args f (arg e ∷ stack)) (arg e ∷ stack) out s
+act_eval p (app n f e) stack out s = demand f (arg e ∷ stack) out
 act_eval p (lets n gs body) stack out s = demand (close body (put_groups gs empty gs)) stack out
 act_eval p (call n w t) stack out s = go_to (called p n w t []) stack out s
 act_eval p (redef n k text table body) stack out s = demand (instance (λ w. w) body (local_name k (tylocal k table))) stack out
-act_eval p (convert n d h generic t) stack out s = convert_to p n d h generic t stack out s
+act_eval p (convert n d h generic t) stack out s = convert_to p d h generic t stack out s
 act_eval p (var n x) stack out s = s
 act_eval p (cases n es rows) stack out s = s
 act_eval p (ann n e t) stack out s = s
 act_eval p (whole e) stack out s = s
-act_eval p (contents c e) stack out s = s
+act_eval p (contents c e) stack out s = demand e (under c ∷ stack) out
 
 abbrev pub act_at : Program → Focus → List Waiting → List ℕ → State → State
 act_at p (eval e) stack out s = act_eval p e stack out s

@@ -1,6 +1,6 @@
 -- Typing (Damas and Milner), with generic calls, cases and local redefinitions (Löh). A typing is the program's text with a
 -- type noted at each node; it is typed up to n where each node before the n-th meets its demand.
-use Rattle.std.specs.Prelude.{◌≡◌, ℕ, suc, ◌+◌, ◌-◌, ◌<◌, ◌≤◌, Bool, true, false, cond, ◌==◌, max, List, [], ◌∷◌, ◌++◌, length, map, take, Option, Some, None, All}
+use Rattle.std.specs.Prelude.{◌≡◌, ◌⊎◌, ℕ, suc, ◌+◌, ◌-◌, ◌<◌, ◌≤◌, Bool, true, false, cond, ◌==◌, ◌&&◌, max, List, [], ◌∷◌, ◌++◌, length, map, take, Option, Some, None, All}
 use Rattle.gh_base.specs.declared.fixed.TheConstants.{BOOL}
 use Rattle.gh_base.specs.declared.place.Span.{Span}
 use Rattle.gh_typeterm.specs.declared.kind.Kind.{Kind}
@@ -27,16 +27,22 @@ pub record Rules : Type 0 where
   pub kinds : Bool
   -- no type at a node passes 1,000 nodes
   pub size : Bool
+  -- a member without a signature quantifies all that it may
+  pub exact : Bool
 
 abbrev pub full : Rules
-full = record { kinds = true; size = true }
+full = record { kinds = true; size = true; exact = false }
 
 abbrev pub loose : Rules
-loose = record { kinds = false; size = false }
+loose = record { kinds = false; size = false; exact = false }
 
 -- loose, but within the 1,000
 abbrev pub loose_small : Rules
-loose_small = record { kinds = false; size = true }
+loose_small = record { kinds = false; size = true; exact = false }
+
+-- full, and each member without a signature quantifies all that it may
+abbrev pub full_exact : Rules
+full_exact = record { kinds = true; size = true; exact = true }
 
 abbrev pub Asked : Bool → Type 0 → Type 0
 Asked true P = P
@@ -108,6 +114,42 @@ unsigned_in f (m ∷ ms) Γ = at_scheme m.signature (m.name, f m) (unsigned_in f
     at_scheme None e Γ = e ∷ Γ
     at_scheme (Some s) e Γ = Γ
 
+-- the variables of a type, from left to right
+abbrev pub variables : Mono → List ℕ
+variables (ty.con c) = []
+variables (ty.var v) = v ∷ []
+variables (ty.app f a) = variables f ++ variables a
+variables (ty.name n) = []
+
+abbrev pub without : ℕ → List ℕ → List ℕ
+without v [] = []
+without v (w ∷ ws) = cond (v == w) (without v ws) (w ∷ without v ws)
+
+-- each of these once, in the order in which they first occur
+abbrev pub once : List ℕ → List ℕ
+once [] = []
+once (v ∷ vs) = v ∷ without v (once vs)
+
+-- exactly those of a list that have a property, in its order
+abbrev pub Picks : (ℕ → Type 0) → List ℕ → List ℕ → Type 0
+Picks P [] picked = picked ≡ []
+Picks P (v ∷ vs) picked = (P v × ((rest : List ℕ) × (picked ≡ v ∷ rest) × Picks P vs rest)) ⊎ ((P v → ⊥) × Picks P vs picked)
+
+-- all variables of the type are among these
+abbrev pub are_among : List ℕ → Mono → Bool
+are_among vs (ty.con c) = true
+are_among vs (ty.var v) = is_among v vs
+are_among vs (ty.app f a) = are_among vs f && are_among vs a
+are_among vs (ty.name n) = true
+
+abbrev pub all_among : List ℕ → List Mono → Bool
+all_among vs [] = true
+all_among vs (t ∷ ts) = are_among vs t && all_among vs ts
+
+-- the variables whose kinds a note lists
+abbrev pub listed : Typed → List ℕ
+listed n = map (λ (e : ℕ × Kind). e.0) n.kinds
+
 -- the variables among these types
 abbrev pub variables_of : List Mono → List ℕ
 variables_of [] = []
@@ -165,10 +207,14 @@ abbrev pub with_name : ℕ → TypeName → TypeNames → TypeNames
 with_name k t Θ j = cond (j == k) (Some t) (Θ j)
 
 module _ (R : Rules) (G : Given) (κ : ℕ → Kind) where
-  -- the rules that each node keeps
+  -- the rules that each node keeps; its note lists the kind of each variable of its types
   abbrev pub IsGood : Typed → Type 0
-  IsGood n = Asked R.kinds (HasKind G.heads κ n.ty Star × All (λ (e : ℕ × Kind). κ e.0 ≡ e.1) n.kinds)
+  IsGood n = Asked R.kinds (HasKind G.heads κ n.ty Star × All (λ (e : ℕ × Kind). κ e.0 ≡ e.1) n.kinds × (all_among (listed n) (n.ty ∷ n.at) ≡ true))
       × Asked R.size ((ty.nodes n.ty ≤ 1000) × All (λ t. ty.nodes t ≤ 1000) n.at)
+
+  -- a type of a variable keeps them too, whether or not a node that has it is looked at
+  abbrev pub IsFine : Mono → Type 0
+  IsFine t = Asked R.kinds (HasKind G.heads κ t Star) × Asked R.size (ty.nodes t ≤ 1000)
 
   -- a node with so many before it, where the nodes before the n-th are looked at
   abbrev pub Node : ℕ → ℕ → Typed → Type 0 → Type 0
@@ -202,32 +248,42 @@ module _ (R : Rules) (G : Given) (κ : ℕ → Kind) where
   AreDistinct [] = Unit {0}
   AreDistinct (v ∷ vs) = (is_among v vs ≡ false) × AreDistinct vs
 
-  -- variables that occur in no type of a name bound outside
-  abbrev pub AreFresh : Scope → List ℕ → Type 0
-  AreFresh Γ vs = All (λ v. occurs_in Γ v ≡ false) vs
+  -- the variable occurs in no type of a type name
+  abbrev pub IsApart : TypeNames → ℕ → Type 0
+  IsApart Θ v = (k : ℕ) (t : TypeName) → Θ k ≡ Some t → All (λ u. ty.has v u ≡ false) (t.types ++ t.fixes)
+
+  -- a variable that occurs in no type of a name or a type name bound outside
+  abbrev pub IsFresh : Scope → TypeNames → ℕ → Type 0
+  IsFresh Γ Θ v = (occurs_in Γ v ≡ false) × IsApart Θ v
+
+  -- variables that do not
+  abbrev pub AreFresh : Scope → TypeNames → List ℕ → Type 0
+  AreFresh Γ Θ vs = All (λ v. occurs_in Γ v ≡ false) vs × All (IsApart Θ) vs
 
   -- the type is the written one with rigid variables: these stand for themselves alone, and for nothing outside
-  abbrev pub IsRigid : Scope → Signed → List ℕ → Mono → Type 0
-  IsRigid Γ s vs t =
-      AreDistinct vs × AreFresh Γ vs × HaveKinds (map ty.var vs) (signed_scheme s).kinds
+  abbrev pub IsRigid : Scope → TypeNames → Signed → List ℕ → Mono → Type 0
+  IsRigid Γ Θ s vs t =
+      AreDistinct vs × AreFresh Γ Θ vs × HaveKinds (map ty.var vs) (signed_scheme s).kinds
       × (t ≡ inst (assigned (signed_scheme s).vars (map ty.var vs)) (signed_scheme s).ty)
 
   -- a binding: its variable has the type of its term; with a signature, that of the signature
-  abbrev pub Binding : Scope → Option Signed → Typed → Mono → Type 0
-  Binding Γ None n t = n.ty ≡ t
-  Binding Γ (Some s) n t = (n.ty ≡ t) × ((vs : List ℕ) × (n.at ≡ map ty.var vs) × IsRigid Γ s vs n.ty)
+  abbrev pub Binding : Scope → TypeNames → Option Signed → Typed → Mono → Type 0
+  Binding Γ Θ None n t = n.ty ≡ t
+  Binding Γ Θ (Some s) n t = (n.ty ≡ t) × ((vs : List ℕ) × (n.at ≡ map ty.var vs) × IsRigid Γ Θ s vs n.ty)
 
   -- after its group a member without a signature has a scheme: what it quantifies are variables that occur in no type of a
-  -- name bound outside
+  -- name or a type name bound outside; under the exact rule these are all such variables of its type, each once, in the order
+  -- in which they first occur
   abbrev pub outside : Member → Scheme
   outside m = record { vars = variables_of m.note.at; kinds = map κ (variables_of m.note.at); ty = m.note.ty }
 
-  abbrev pub Generalises : Scope → Member → Type 0
-  Generalises Γ m = (m.note.at ≡ map ty.var (variables_of m.note.at)) × AreFresh Γ (variables_of m.note.at)
+  abbrev pub Generalises : Scope → TypeNames → Member → Type 0
+  Generalises Γ Θ m = (m.note.at ≡ map ty.var (variables_of m.note.at)) × AreFresh Γ Θ (variables_of m.note.at)
+      × Asked R.exact (Picks (IsFresh Γ Θ) (once (variables m.note.ty)) (variables_of m.note.at))
 
-  abbrev pub Closes : Scope → List Member → Type 0
-  Closes Γ [] = Unit {0}
-  Closes Γ (m ∷ ms) = unless m.signature (Generalises Γ m) × Closes Γ ms
+  abbrev pub Closes : Scope → TypeNames → List Member → Type 0
+  Closes Γ Θ [] = Unit {0}
+  Closes Γ Θ (m ∷ ms) = unless m.signature (Generalises Γ Θ m) × Closes Γ Θ ms
     where
       unless : Option Signed → Type 0 → Type 0
       unless None P = P
@@ -305,7 +361,7 @@ module _ (R : Rules) (G : Given) (κ : ℕ → Kind) where
     IsTyped n Γ Θ (con m c) = Node n 0 m (Constructs (shape G c) m)
     IsTyped n Γ Θ (lit m l) = Node n 0 m (m.ty ≡ literal_type l)
     IsTyped n Γ Θ (string m cs) = Node n 0 m (m.ty ≡ list_type char_type)
-    IsTyped n Γ Θ (lam m x body) = (t : Mono) × IsTyped n ((local x, monomorphic t) ∷ Γ) Θ body × Node n (nodes body) m (m.ty ≡ arrow t (root body))
+    IsTyped n Γ Θ (lam m x body) = (t : Mono) × IsFine t × IsTyped n ((local x, monomorphic t) ∷ Γ) Θ body × Node n (nodes body) m (m.ty ≡ arrow t (root body))
     IsTyped n Γ Θ (app m f e) =
         IsTyped n Γ Θ f × IsTyped (n - nodes f) Γ Θ e × Node n (nodes f + nodes e) m (root f ≡ arrow (root e) m.ty)
     IsTyped n Γ Θ (lets m gs body) =
@@ -315,12 +371,12 @@ module _ (R : Rules) (G : Given) (κ : ℕ → Kind) where
         AllTyped n Γ Θ es × RowsTyped (n - all_nodes es) Γ Θ rows × Node n (all_nodes es + rows_nodes rows) m (RowsFit (roots es) m.ty rows)
     IsTyped n Γ Θ (call m w t) = Node n 0 m (Calls (function_among G.functions w) Θ t m)
     IsTyped n Γ Θ (redef m k text table body) =
-        (t : TypeName) × (length t.fixes ≡ most_others table)
+        (t : TypeName) × All IsFine (t.types ++ t.fixes) × (length t.fixes ≡ most_others table)
         × TableTyped n Γ Θ table × IsTyped (n - table_nodes table) Γ (with_name k t Θ) body
         × Node n (table_nodes table + nodes body) m
         ((m.ty ≡ root body) × (m.at ≡ t.types ++ t.fixes) × HaveKinds m.at (map (λ u. Star) m.at) × AllRedefine table t)
     IsTyped n Γ Θ (ann m e s) =
-        IsTyped n Γ Θ e × Node n (nodes e) m (((vs : List ℕ) × IsRigid Γ s vs (root e)) × IsInstance (signed_scheme s) m)
+        IsTyped n Γ Θ e × Node n (nodes e) m (((vs : List ℕ) × IsRigid Γ Θ s vs (root e)) × IsInstance (signed_scheme s) m)
     IsTyped n Γ Θ (whole e) = ⊥
     IsTyped n Γ Θ (contents c e) = ⊥
     IsTyped n Γ Θ (convert m d h generic t) = ⊥
@@ -337,13 +393,13 @@ module _ (R : Rules) (G : Given) (κ : ℕ → Kind) where
     pub BindsTyped : ℕ → Scope → TypeNames → Binds Typed → Type 0
     BindsTyped n Γ Θ no_bind = Unit {0}
     BindsTyped n Γ Θ (bind m x s e rest) =
-        IsTyped n Γ Θ e × Node n (nodes e) m (Binding Γ s m (root e)) × BindsTyped (n - suc (nodes e)) Γ Θ rest
+        IsFine m.ty × IsTyped n Γ Θ e × Node n (nodes e) m (Binding Γ Θ s m (root e)) × BindsTyped (n - suc (nodes e)) Γ Θ rest
 
     -- a group has one type for each member inside it, and its schemes after it
     pub GroupsTyped : ℕ → Scope → TypeNames → Groups Typed → Type 0
     GroupsTyped n Γ Θ no_group = Unit {0}
     GroupsTyped n Γ Θ (group bs rest) =
-        BindsTyped n (unsigned_in inside (members bs) Γ) Θ bs × Closes Γ (members bs)
+        BindsTyped n (unsigned_in inside (members bs) Γ) Θ bs × Closes Γ Θ (members bs)
         × GroupsTyped (n - binds_nodes bs) (unsigned_in outside (members bs) Γ) Θ rest
 
     pub BodiesTyped : ℕ → Scope → TypeNames → Bodies Typed → Type 0

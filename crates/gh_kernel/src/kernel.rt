@@ -45,7 +45,8 @@ pub struct CaseBody<A> {
     pub head: Head,
     /// The parameters of the head, as written. In the term the parameter at place `i`, from 0, is the type name `i`.
     pub names: ListOf<NameId>,
-    /// What the function is there.
+    /// What the function is there. In a typing its rigid variables are 0 and up: at each parameter in order one for each
+    /// generic variable, and then one for each non-generic variable.
     pub term: Term<A>,
     /// The bytes of the case.
     pub span: Span,

@@ -33,11 +33,11 @@ unfolding read
 empty_file = refl
 
 pub a_binding : read 1 (codes "main = \"a\"") ≡ Ok (at (var (codes "main")) 0 4 1 1 true ∷ at (Mark (codes "=")) 5 6 1 6 false ∷ at (Text (codes "a")) 7 10 1 8 false ∷ [])
-unfolding read scan_at small_at other_at symbol_at operator_at text_at item_at plain_at is_word is_operator is_dashes past
+unfolding read scan_at small_at other_at symbol_at operator_at text_at item_at plain_at is_word is_operator is_dashes past fixed_texts
 a_binding = refl
 
 pub an_open_string : read 1 (codes "main = \"a") ≡ Err (OpenText (span_at 1 7 8))
-unfolding read scan_at small_at other_at symbol_at operator_at text_at item_at plain_at is_word is_operator is_dashes past
+unfolding read scan_at small_at other_at symbol_at operator_at text_at item_at plain_at is_word is_operator is_dashes past fixed_texts
 an_open_string = refl
 
 -- a gap and `\&` give nothing
@@ -47,35 +47,35 @@ a_gap = refl
 
 -- a qualified name is one token, and has one qualifier
 pub a_qualified_name : read 1 (codes "A.b") ≡ Ok (at (Named name.VarId (Some (codes "A")) (codes "b")) 0 3 1 1 true ∷ [])
-unfolding read scan_at qualified_at part_at is_word past
+unfolding read scan_at qualified_at part_at is_word past fixed_texts
 a_qualified_name = refl
 
 pub one_qualifier : read 1 (codes "A.B.c") ≡ Ok (at (Named name.ConId (Some (codes "A")) (codes "B")) 0 3 1 1 true ∷ at (Named name.VarSym None (codes ".")) 3 4 1 4 false ∷ at (var (codes "c")) 4 5 1 5 false ∷ [])
-unfolding read scan_at small_at qualified_at part_at other_at symbol_at operator_at is_word is_operator is_dashes past
+unfolding read scan_at small_at qualified_at part_at other_at symbol_at operator_at is_word is_operator is_dashes past fixed_texts
 one_qualifier = refl
 
 -- a reserved word after a qualifier is no token
 pub a_word_after_a_dot : read 1 (codes " A.where") ≡ Err (NoToken (span_at 1 1 2))
-unfolding read scan_at qualified_at part_at is_word past
+unfolding read scan_at qualified_at part_at is_word past fixed_texts
 a_word_after_a_dot = refl
 
 -- dashes and another symbol are an operator, and dashes alone begin a comment
 pub a_dash_operator : read 1 (codes "--> -- x") ≡ Ok (at (Named name.VarSym None (codes "-->")) 0 3 1 1 true ∷ [])
-unfolding read scan_at other_at symbol_at operator_at is_operator is_dashes past
+unfolding read scan_at other_at symbol_at operator_at is_operator is_dashes past fixed_texts
 a_dash_operator = refl
 
 -- comments nest, and an open one is refused where the outermost begins
 pub a_nested_comment : read 1 (codes "{- {- -} -}a") ≡ Ok (at (var (codes "a")) 11 12 1 12 true ∷ [])
-unfolding read scan_at small_at other_at brace_at is_word past
+unfolding read scan_at small_at other_at brace_at is_word past fixed_texts
 a_nested_comment = refl
 
 pub an_open_comment : read 1 (codes "a {- {- -}") ≡ Err (OpenComment (span_at 1 2 3))
-unfolding read scan_at small_at other_at brace_at is_word past
+unfolding read scan_at small_at other_at brace_at is_word past fixed_texts
 an_open_comment = refl
 
 -- a tab goes on to column 9, and CR LF ends one line
 pub places : read 1 (codes "a\tb\r\nc d") ≡ Ok (at (var (codes "a")) 0 1 1 1 true ∷ at (var (codes "b")) 2 3 1 9 false ∷ at (var (codes "c")) 5 6 2 1 true ∷ at (var (codes "d")) 7 8 2 3 false ∷ [])
-unfolding read scan_at small_at is_word past
+unfolding read scan_at small_at is_word past fixed_texts
 places = refl
 
 -- integers in three bases, of which one is too great
@@ -102,11 +102,11 @@ letters = refl
 
 -- whole texts and what they are
 pub a_word : piece_of (codes "where") ≡ Some (Ok class.Word)
-unfolding piece_of is_word
+unfolding piece_of is_word fixed_texts
 a_word = refl
 
 pub two_names : piece_of (codes "a b") ≡ None
-unfolding piece_of is_word
+unfolding piece_of is_word fixed_texts
 two_names = refl
 
 pub a_float : piece_of (codes "1e+5") ≡ Some (Err wrong.NoToken)
@@ -132,11 +132,11 @@ operators_are_fixed = refl
 
 -- a name of 255 bytes is read, and one of 256 is not
 pub a_long_name : read 1 (replicate 255 97) ≡ Ok (at (var (replicate 255 97)) 0 255 1 1 true ∷ [])
-unfolding read scan_at small_at is_word past
+unfolding read scan_at small_at is_word past fixed_texts
 a_long_name = refl
 
 pub a_name_too_long : read 1 (replicate 256 97) ≡ Err (NameTooLong (span_at 1 0 256))
-unfolding read scan_at small_at is_word past
+unfolding read scan_at small_at is_word past fixed_texts
 a_name_too_long = refl
 
 -- UTF-8 is tested before anything else

@@ -1,8 +1,8 @@
 -- The characters that names, operators, numbers and white space are made of, and the reserved texts.
-use Rattle.std.specs.Prelude.{ℕ, Bool, false, not, ◌&&◌, ◌||◌, ◌==◌, nat_le, List, [], ◌∷◌}
+use Rattle.std.specs.Prelude.{ℕ, Bool, false, not, ◌&&◌, ◌||◌, ◌==◌, nat_le, List, [], ◌∷◌, take, drop}
 use Rattle.std.specs.List.{list_any, list_all}
 use Rattle.std.specs.Str.{bytes_eq}
-use Rattle.gh_lexer.specs.declared.scan.TheConstants.{RESERVED, OPERATORS}
+use Rattle.gh_base.specs.Fixed.{fixed_texts}
 
 -- a lower-case letter or `_`
 abbrev pub is_small : ℕ → Bool
@@ -59,13 +59,21 @@ is_dashes [] = false
 is_dashes (a ∷ []) = false
 is_dashes (a ∷ b ∷ more) = is_dash a && (is_dash b && list_all is_dash more)
 
+-- the reserved words: the first 22 of the fixed texts (Haskell 98 Report, 2.4)
+abbrev pub reserved_words : List (List ℕ)
+reserved_words = take 22 fixed_texts
+
+-- the reserved operators: the 11 fixed texts behind them (Haskell 98 Report, 2.4)
+abbrev pub reserved_operators : List (List ℕ)
+reserved_operators = take 11 (drop 22 fixed_texts)
+
 -- a reserved word
 unfoldable pub is_word : List ℕ → Bool
-is_word s = list_any (λ word. bytes_eq word.now s) RESERVED
+is_word s = list_any (λ word. bytes_eq word s) reserved_words
 
 -- a reserved operator
 unfoldable pub is_operator : List ℕ → Bool
-is_operator s = list_any (λ word. bytes_eq word.now s) OPERATORS
+is_operator s = list_any (λ operator. bytes_eq operator s) reserved_operators
 
 -- the first byte is this one
 abbrev pub begins : ℕ → List ℕ → Bool

@@ -6,42 +6,49 @@ ghost use Rattle.gh_lexer.specs.Chars.{is_small, is_large, is_digit, is_octal, i
 
 use crate::scan::{OPERATORS, RESERVED};
 
+/// A small letter: `a` to `z` or `_` (Haskell 98 Report, 2.2).
 pub fn small(byte: u8) -> bool
     ensures { result ≡ is_small byte }
 {
     (b'a' <= byte && byte <= b'z') || byte == b'_'
 }
 
+/// A capital letter: `A` to `Z` (Report, 2.2).
 pub fn large(byte: u8) -> bool
     ensures { result ≡ is_large byte }
 {
     b'A' <= byte && byte <= b'Z'
 }
 
+/// A decimal digit (Report, 2.2).
 pub fn digit(byte: u8) -> bool
     ensures { result ≡ is_digit byte }
 {
     b'0' <= byte && byte <= b'9'
 }
 
+/// An octal digit (Report, 2.2).
 pub fn octal(byte: u8) -> bool
     ensures { result ≡ is_octal byte }
 {
     b'0' <= byte && byte <= b'7'
 }
 
+/// A hexadecimal digit, in small or capital letters (Report, 2.2).
 pub fn hex(byte: u8) -> bool
     ensures { result ≡ is_hex byte }
 {
     digit(byte) || (b'a' <= byte && byte <= b'f') || (b'A' <= byte && byte <= b'F')
 }
 
+/// A byte that may stand in a name behind its first letter: a letter, a digit, `_` or a prime (Report, 2.4).
 pub fn name_char(byte: u8) -> bool
     ensures { result ≡ is_name_char byte }
 {
     small(byte) || large(byte) || digit(byte) || byte == b'\''
 }
 
+/// A symbol character, of which operators are made (Report, 2.2); `:` is one of them.
 pub fn symbol(byte: u8) -> bool
     ensures { result ≡ is_symbol byte }
 {
@@ -57,6 +64,8 @@ pub fn symbol(byte: u8) -> bool
         || byte == b'~'
 }
 
+/// A byte that is a mark by itself: a parenthesis, a bracket, a closing brace, a comma, a semicolon or a backquote
+/// (Report, 2.2, special). An opening brace may begin a longer piece.
 pub fn bracket(byte: u8) -> bool
     ensures { result ≡ is_bracket byte }
 {
@@ -76,12 +85,14 @@ fn line_end(byte: u8) -> bool
     byte == b'\n' || byte == 12 || byte == b'\r'
 }
 
+/// White space: a space, a tab, a vertical tab or a byte of a line end (Report, 2.2).
 pub fn blank(byte: u8) -> bool
     ensures { result ≡ is_blank byte }
 {
     byte == b' ' || (9 <= byte && byte <= 13)
 }
 
+/// A byte that ends no line.
 pub fn in_line(byte: u8) -> bool
     ensures { result ≡ is_in_line byte }
 {
@@ -126,14 +137,14 @@ fn is_among(words: &[&[u8]], text: &[u8]) -> bool
     words.iter().any(|word| *word == text)
 }
 
-#[tactic(auto, unfolding(crate::specs::Chars::is_word))]
+/// Whether a text is a reserved word (Report, 2.4).
 pub fn word(text: &[u8]) -> bool
     ensures { result ≡ is_word text.now }
 {
     is_among(&RESERVED, text)
 }
 
-#[tactic(auto, unfolding(crate::specs::Chars::is_operator))]
+/// Whether a text is a reserved operator (Report, 2.4).
 pub fn operator(text: &[u8]) -> bool
     ensures { result ≡ is_operator text.now }
 {
@@ -150,6 +161,7 @@ pub fn begins_with(byte: u8, bytes: &[u8]) -> bool
     }
 }
 
+/// Whether the first byte is a decimal digit.
 pub fn begins_with_digit(bytes: &[u8]) -> bool
     ensures { result ≡ begins_with_class is_digit bytes.now }
 {

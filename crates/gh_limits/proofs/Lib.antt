@@ -1,9 +1,12 @@
 pub mod BoundAt
+pub mod CountedAt
 pub mod Examples
 pub mod Few
+pub mod FirstAnswer
 pub mod Found
 pub mod InsideAt
 pub mod Loops
+pub mod NodesAt
 pub mod SameAt
 pub mod Sames
 pub mod Seen

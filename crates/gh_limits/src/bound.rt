@@ -9,6 +9,7 @@ use gh_tree::{ArgPattern, NextPattern, PatOperand, PatPart, Pattern, Var, VarOp}
 /// Different names, of which no more are kept than tell that a limit is passed.
 pub type Seen = ArrayVec<u32, 65>;
 
+/// The number of the name of a variable, with or without parentheses.
 pub fn var_name(var: &Var) -> u32
     ensures { result ≡ spec.var_name var.now }
 {
@@ -18,6 +19,7 @@ pub fn var_name(var: &Var) -> u32
     }
 }
 
+/// The number of the name of a variable that stands as an operator.
 pub fn var_op_name(op: &VarOp) -> u32
     ensures { result ≡ spec.var_op_name op.now }
 {
@@ -39,6 +41,7 @@ pub fn see(seen: &mut Seen, name: u32)
     }
 }
 
+/// Adds the names that a pattern binds, at every depth.
 #[cycle(patterns)]
 #[tactic(auto, using(crate::proofs::BoundAt::pattern_at, crate::proofs::Seen::keeps_append))]
 pub fn see_pattern(seen: &mut Seen, node: &Pattern)

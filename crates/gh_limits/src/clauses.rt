@@ -45,7 +45,7 @@ fn left_name(left: &FunLhs) -> u32
     }
 }
 
-// How many arguments a left side has, up to 17.
+/// How many arguments a left side has, up to 17.
 #[tactic(auto, using(crate::proofs::BoundAt::head_prefix, crate::proofs::BoundAt::head_infix, crate::proofs::BoundAt::head_nested, crate::proofs::Few::few_nested))]
 pub fn arguments(left: &FunLhs) -> usize
     ensures { result ≡ min 17 (bound_spec.head_of left.now).arguments }

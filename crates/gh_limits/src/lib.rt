@@ -5,8 +5,10 @@ mod bound;
 mod clauses;
 mod first;
 mod inside;
+mod law;
 mod places;
 mod same_types;
 mod tops;
 
 pub use first::limits;
+pub use law::answers_the_first;

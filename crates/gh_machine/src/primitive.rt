@@ -17,6 +17,7 @@ pub enum Literal {
     Char(char),
 }
 
+/// The primitives of one operand.
 #[derive(Clone, Copy)]
 pub enum Unary {
     Ord,
@@ -24,6 +25,7 @@ pub enum Unary {
     ShowInt,
 }
 
+/// The primitives of two operands.
 #[derive(Clone, Copy)]
 pub enum Binary {
     Plus,
@@ -36,6 +38,7 @@ pub enum Binary {
     EqChar,
 }
 
+/// The primitives of the Prelude, by their number of operands.
 #[derive(Clone, Copy)]
 pub enum Primitive {
     Error,
@@ -53,6 +56,7 @@ pub enum Outcome {
     Nothing,
 }
 
+/// The value of this name in the module Prelude.
 pub fn prelude_value(name: NameId) -> Origin
     ensures { result ≡ p.prelude_value name }
 {
@@ -63,6 +67,7 @@ pub fn prelude_value(name: NameId) -> Origin
     }
 }
 
+/// The primitive that an origin stands for, if it stands for one.
 pub fn primitive_named(origin: Origin) -> Option<Primitive>
     ensures { option_map primitive_of result ≡ p.named p.primitives origin }
 {
@@ -119,6 +124,7 @@ fn character(n: i64) -> Outcome
     }
 }
 
+/// What a primitive answers for its operand, or why it fails.
 pub fn unary_outcome(primitive: Unary, operand: Literal) -> Outcome
     ensures { outcome_of result ≡ p.unary_outcome (unary_of primitive) (literal_of operand) }
 {
@@ -180,6 +186,7 @@ fn on_characters(primitive: Binary, c: char, d: char) -> Outcome
     }
 }
 
+/// What a primitive answers for its operands, or why it fails.
 pub fn binary_outcome(primitive: Binary, first: Literal, second: Literal) -> Outcome
     ensures { outcome_of result ≡ p.binary_outcome (binary_of primitive) (literal_of first) (literal_of second) }
 {

@@ -1,5 +1,5 @@
 -- What an output in memory holds.
-use Rattle.std.specs.Prelude.{ℕ, List, take, length}
+use Rattle.std.specs.Prelude.{ℕ, ◌-◌, List, take, length}
 use Rattle.gh_outside.specs.declared.mem_out.MemOut.{MemOut}
 
 -- the bytes that were written
@@ -17,3 +17,11 @@ room_of o = length o.buffer.items
 -- the numbers of the writing calls that fail
 abbrev pub failing_of : MemOut → List ℕ
 failing_of o = o.failing
+
+-- how many calls of writing there were
+abbrev pub calls_of : MemOut → ℕ
+calls_of o = o.calls
+
+-- how many bytes more it takes
+abbrev pub left_of : MemOut → ℕ
+left_of o = room_of o - length (bytes_of o)

@@ -14,3 +14,11 @@ faults_of s name = times name s.book
 -- the numbers of the reading calls that fail
 abbrev pub failing_of : MemShelf → List ℕ
 failing_of s = s.failing
+
+-- how many calls of reading there were
+abbrev pub calls_of : MemShelf → ℕ
+calls_of s = s.calls
+
+-- the names that were asked for, in their order
+abbrev pub asked_of : MemShelf → List (List ℕ)
+asked_of s = s.asked

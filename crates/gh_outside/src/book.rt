@@ -1,5 +1,5 @@
-// The names under which reading has failed.
-ghost use Rattle.std.specs.Prelude.{◌≡◌, ◌≢◌, ◌+◌, ℕ, List, OnOk, OnErr};
+// Books of names: those that were asked for, and those under which reading has failed.
+ghost use Rattle.std.specs.Prelude.{◌≡◌, ◌≢◌, ◌+◌, ℕ, List, [], ◌∷◌, ◌++◌, OnOk, OnErr};
 ghost use Rattle.gh_outside.specs.Shelves.{times};
 
 use gh_base::{Bytes, ListOf, NoMemory};
@@ -14,6 +14,15 @@ pub fn note(alloc: Global, book: &mut ListOf<Bytes>, name: &[u8]) -> Result<(), 
 {
     let name = ListOf::from_slice(alloc, name)?;
     book.push(name)
+}
+
+/// Writes a name behind those that were asked for. Without memory nothing changes.
+pub fn ask(alloc: Global, asked: &mut ListOf<Bytes>, name: &[u8]) -> Result<(), NoMemory>
+    ensures ok { OnOk result (asked.new ≡ asked.old ++ name.now ∷ []) }
+    ensures err { OnErr result (asked.new ≡ asked.old) }
+{
+    let name = ListOf::from_slice(alloc, name)?;
+    asked.push(name)
 }
 
 /// How often a name stands in a book.

@@ -1,7 +1,7 @@
 // The files and streams of the host: the trusted edge. No contract says what they hold.
 ghost use Rattle.std.specs.Prelude.{◌≤◌, length, IfOk};
 
-use crate::book::note;
+use crate::book::{ask, note};
 use crate::outside::{Out, OutFault, Shelf, ShelfFault};
 use gh_base::{Bytes, ListOf};
 use std::alloc::Global;
@@ -9,11 +9,12 @@ use std::io::{Read, Write};
 use std::rt::Files;
 use std::{fs, str};
 
-/// The files of the host, by path. It tells no content, and counts the failures under each name.
+/// The files of the host, by path. It tells no content, and keeps the names that were asked for and those of failures.
 #[derive(Drop)]
 pub struct HostShelf<R: Files + Drop> {
     rt: R,
     alloc: Global,
+    asked: ListOf<Bytes>,
     book: ListOf<Bytes>,
 }
 
@@ -23,6 +24,7 @@ impl<R: Files + Drop> HostShelf<R> {
         HostShelf {
             rt,
             alloc,
+            asked: ListOf::new(alloc),
             book: ListOf::new(alloc),
         }
     }
@@ -74,7 +76,10 @@ impl<R: Files + Drop> Shelf for HostShelf<R> {
 
     ghost faults = { λ s n. times n s.book };
 
+    ghost asked = { λ s. s.asked };
+
     fn read_file(&mut self, name: &Bytes, most: u64) -> Result<Bytes, ShelfFault> {
+        ask(self.alloc, &mut self.asked, name.as_slice())?;
         match read_named(&self.rt, self.alloc, name.as_slice(), most) {
             Ok(bytes) => Ok(bytes),
             Err(ShelfFault::NoMemory) => Err(ShelfFault::NoMemory),

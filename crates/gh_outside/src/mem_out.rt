@@ -1,6 +1,6 @@
 // An output in memory.
-ghost use Rattle.std.specs.Prelude.{◌≡◌, [], ◌++◌, ◌+◌, ◌≤◌, length, take, drop, IfOk, IsOk, OnOk, OnErr, IsErrOf, Some};
-ghost use Rattle.gh_outside.specs.Outside.{Rose, AppendsFront};
+ghost use Rattle.std.specs.Prelude.{◌≡◌, [], ◌++◌, ◌+◌, ◌-◌, ◌<◌, ◌≤◌, min, length, take, drop, Contains, IfOk, IsOk, IsErr, OnOk, OnErr, IsErrOf, Some};
+ghost use Rattle.gh_outside.specs.Outside.{Rose, AppendsFront, Counted};
 
 use crate::failing::is_listed;
 use crate::outside::{Out, OutFault};
@@ -20,7 +20,7 @@ pub struct MemOut {
 }
 
 impl MemOut {
-    ghost use Rattle.gh_outside.specs.MemOut.{bytes_of, faults_of, room_of, failing_of};
+    ghost use Rattle.gh_outside.specs.MemOut.{bytes_of, faults_of, room_of, failing_of, calls_of, left_of};
 
     /// An empty output with room for `room` bytes, which it takes at once.
     pub fn new(alloc: Global, room: u64, failing: ListOf<u32>) -> Result<MemOut, NoMemory>
@@ -28,6 +28,7 @@ impl MemOut {
         ensures faultless { IfOk result (λ out. faults_of out ≡ 0) }
         ensures room { IfOk result (λ out. room_of out ≡ room) }
         ensures failing { IfOk result (λ out. failing_of out ≡ failing) }
+        ensures calls { IfOk result (λ out. calls_of out ≡ 0) }
     {
         let buffer = vec![in alloc; 0; room as usize]?;
         Ok(MemOut {
@@ -60,7 +61,7 @@ fn write(buffer: &mut Vec<u8>, at: usize, piece: &[u8]) -> usize
     ensures count { result ≤ length piece.now }
     ensures within { at + result ≤ length buffer.new.items }
     ensures room { length buffer.new.items ≡ length buffer.old.items }
-    ensures fits { at + length piece.now ≤ length buffer.old.items → result ≡ length piece.now }
+    ensures most { result ≡ min (length piece.now) (length buffer.old.items - at) }
     ensures written { take (at + result) buffer.new.items ≡ take at buffer.old.items ++ take result piece.now }
 {
     let room = buffer.len() - at;
@@ -71,7 +72,7 @@ fn write(buffer: &mut Vec<u8>, at: usize, piece: &[u8]) -> usize
 
 impl Out for MemOut {
     ghost use Rattle.std.specs.Prelude.{Some};
-    ghost use Rattle.gh_outside.specs.MemOut.{bytes_of, faults_of, room_of, failing_of};
+    ghost use Rattle.gh_outside.specs.MemOut.{bytes_of, faults_of, room_of, failing_of, calls_of, left_of};
 
     ghost written = { λ o. Some (bytes_of o) };
 
@@ -84,8 +85,15 @@ impl Out for MemOut {
         ensures later { faults_of self.old ≤ faults_of self.new }
         ensures room { room_of self.new ≡ room_of self.old }
         ensures failing { failing_of self.new ≡ failing_of self.old }
-        // With no call that is to fail, a piece that fits is taken.
-        ensures takes { failing_of self.old ≡ [] → length (bytes_of self.old) + length piece.now ≤ room_of self.old → IsOk result }
+        ensures calls { Counted (calls_of self.old) (calls_of self.new) }
+        // A listed call fails, and leaves what was written as it was.
+        ensures listed { Contains (failing_of self.old) (calls_of self.old) → IsErr result }
+        ensures silent { Contains (failing_of self.old) (calls_of self.old) → bytes_of self.new ≡ bytes_of self.old }
+        // Every other call writes as far as there is room, and fails exactly where that is not the whole piece.
+        ensures written { ¬ Contains (failing_of self.old) (calls_of self.old) → bytes_of self.new ≡ bytes_of self.old ++ take (left_of self.old) piece.now }
+        ensures takes { ¬ Contains (failing_of self.old) (calls_of self.old) → length piece.now ≤ left_of self.old → IsOk result }
+        ensures full { ¬ Contains (failing_of self.old) (calls_of self.old) → left_of self.old < length piece.now → IsErr result }
+        ensures steady { OnOk result (faults_of self.new ≡ faults_of self.old) }
     {
         let call = self.calls;
         self.calls = call.saturating_add(1);

@@ -1,9 +1,9 @@
 // A shelf in memory.
-ghost use Rattle.std.specs.Prelude.{◌≡◌, ◌≢◌, ◌≤◌, ℕ, List, [], Some, None, IfOk, IsSome, option_map, take, length, IsErrOf};
-ghost use Rattle.gh_outside.specs.Outside.{Rose, Reads};
+ghost use Rattle.std.specs.Prelude.{◌≡◌, ◌≢◌, ◌≤◌, ℕ, List, [], Some, None, ◌++◌, ◌∷◌, Contains, IfOk, OnOk, IsErr, IsSome, option_map, take, length, IsErrOf};
+ghost use Rattle.gh_outside.specs.Outside.{Rose, Reads, Counted, Asks};
 ghost use Rattle.gh_outside.specs.Shelves.{file_of};
 
-use crate::book::{count, note};
+use crate::book::{ask, count, note};
 use crate::failing::is_listed;
 use crate::outside::{Shelf, ShelfFault};
 use gh_base::{Bytes, ListOf, NoMemory};
@@ -16,23 +16,27 @@ pub struct MemShelf {
     files: ListOf<(Bytes, Bytes)>,
     failing: ListOf<u32>,
     calls: u64,
+    asked: ListOf<Bytes>,
     book: ListOf<Bytes>,
 }
 
 impl MemShelf {
-    ghost use Rattle.gh_outside.specs.MemShelf.{held_by, faults_of, failing_of};
+    ghost use Rattle.gh_outside.specs.MemShelf.{held_by, faults_of, failing_of, calls_of, asked_of};
 
     /// A shelf of these files, each a name and its bytes. Of two files of one name the first is held. It takes no memory.
     pub fn new(alloc: Global, files: ListOf<(Bytes, Bytes)>, failing: ListOf<u32>) -> MemShelf
         ensures held { (n : List ℕ) → held_by result n ≡ file_of files n }
         ensures failing { failing_of result ≡ failing }
         ensures faultless { (n : List ℕ) → faults_of result n ≡ 0 }
+        ensures calls { calls_of result ≡ 0 }
+        ensures asked { asked_of result ≡ [] }
     {
         MemShelf {
             alloc,
             files,
             failing,
             calls: 0,
+            asked: ListOf::new(alloc),
             book: ListOf::new(alloc),
         }
     }
@@ -70,13 +74,15 @@ fn front(alloc: Global, bytes: &[u8], most: u64) -> Result<Bytes, NoMemory>
 
 impl Shelf for MemShelf {
     ghost use Rattle.std.specs.Prelude.{true};
-    ghost use Rattle.gh_outside.specs.MemShelf.{held_by, faults_of, failing_of};
+    ghost use Rattle.gh_outside.specs.MemShelf.{held_by, faults_of, failing_of, calls_of, asked_of};
 
     ghost tells = { λ s. true };
 
     ghost held = { λ s n. held_by s n };
 
     ghost faults = { λ s n. faults_of s n };
+
+    ghost asked = { λ s. asked_of s };
 
     fn read_file(&mut self, name: &Bytes, most: u64) -> Result<Bytes, ShelfFault>
         ensures most { IfOk result (λ b. length b ≤ most) }
@@ -86,11 +92,18 @@ impl Shelf for MemShelf {
         ensures later { faults_of self.old name.now ≤ faults_of self.new name.now }
         ensures others { (n : List ℕ) → n ≢ name.now → faults_of self.new n ≡ faults_of self.old n }
         ensures failing { failing_of self.new ≡ failing_of self.old }
-        // With no call that is to fail, a name that is held never fails.
-        ensures steady { failing_of self.old ≡ [] → IsSome (held_by self.old name.now) → (n : List ℕ) → faults_of self.new n ≡ faults_of self.old n }
+        ensures asked { Asks (asked_of self.old) name.now (IsErrOf result ShelfFault.NoMemory) (asked_of self.new) }
+        ensures calls { Counted (calls_of self.old) (calls_of self.new) }
+        // A listed call gives nothing.
+        ensures listed { Contains (failing_of self.old) (calls_of self.old) → IsErr result }
+        // Every other call of a name that is held gives its bytes, where there is memory.
+        ensures unlisted { ¬ Contains (failing_of self.old) (calls_of self.old) → IsSome (held_by self.old name.now) → ¬ IsErrOf result ShelfFault.Failed }
+        ensures steady { ¬ Contains (failing_of self.old) (calls_of self.old) → IsSome (held_by self.old name.now) → (n : List ℕ) → faults_of self.new n ≡ faults_of self.old n }
+        ensures given { OnOk result ((n : List ℕ) → faults_of self.new n ≡ faults_of self.old n) }
     {
         let call = self.calls;
         self.calls = call.saturating_add(1);
+        ask(self.alloc, &mut self.asked, name.as_slice())?;
         if !is_listed(self.failing.as_slice(), call) {
             if let Some(bytes) = find(self.files.as_slice(), name.as_slice()) {
                 return Ok(front(self.alloc, bytes.as_slice(), most)?);

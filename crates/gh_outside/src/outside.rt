@@ -1,6 +1,6 @@
 // Shelves of files, and outputs.
 ghost use Rattle.std.specs.Prelude.{◌≡◌, ◌≢◌, ◌≤◌, ℕ, List, Option, Bool, IsTrue, length, IfOk, OnOk, OnErr, IsErr, IsErrOf};
-ghost use Rattle.gh_outside.specs.Outside.{Rose, Reads, Appends, AppendsFront};
+ghost use Rattle.gh_outside.specs.Outside.{Rose, Reads, Appends, AppendsFront, Asks};
 
 use gh_base::{Bytes, NoMemory};
 use thiserror::Error;
@@ -46,8 +46,11 @@ pub trait Shelf {
     /// How often reading under a name has failed.
     ghost faults: { Self → List ℕ → ℕ };
 
+    /// The names that were asked for, in their order.
+    ghost asked: { Self → List (List ℕ) };
+
     /// The first `most` bytes of the file of that name, or all of it where it has fewer. A name that is not held is a
-    /// failure. A failure raises the count of that name, and of no other.
+    /// failure. A failure raises the count of that name, and of no other. The name goes behind those that were asked for.
     fn read_file(&mut self, name: &Bytes, most: u64) -> Result<Bytes, ShelfFault>
         ensures most { IfOk result (λ b. length b ≤ most) }
         ensures bytes { IfOk result (λ b. IsTrue (tells self.old) → Reads (held self.old name.now) most b) }
@@ -55,7 +58,9 @@ pub trait Shelf {
         ensures held { (n : List ℕ) → held self.new n ≡ held self.old n }
         ensures failed { IsErrOf result ShelfFault.Failed → Rose (faults self.old name.now) (faults self.new name.now) }
         ensures later { faults self.old name.now ≤ faults self.new name.now }
-        ensures others { (n : List ℕ) → n ≢ name.now → faults self.new n ≡ faults self.old n };
+        ensures others { (n : List ℕ) → n ≢ name.now → faults self.new n ≡ faults self.old n }
+        // No name but this one is asked for.
+        ensures asked { Asks (asked self.old) name.now (IsErrOf result ShelfFault.NoMemory) (asked self.new) };
 }
 
 /// What takes bytes, in order.

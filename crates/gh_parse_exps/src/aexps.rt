@@ -4,6 +4,8 @@ ghost use Rattle.gh_parse_exps.specs.Reading.{NestsExp, NestsDecls};
 ghost use Rattle.gh_parse_exps.specs.Exps as spec;
 ghost use Rattle.std.specs.Prelude.{option_copied, ◌≡◌};
 
+use crate::held::{discard, kept};
+use crate::levels::{LIST, PARENTHESES, PART, SECTION};
 use crate::marks::close_banana;
 use crate::narrow::{operands_open, plain_of};
 use crate::ops::{any_var_next, con_next, op, right_next};
@@ -73,7 +75,7 @@ impl<
         ensures { Reads (spec.part (spec.knot self.now.depth) tokens.old) result tokens.new }
     {
         let mark = tokens.take();
-        let exp = self.exp(tokens)?;
+        let exp = self.exp(tokens, PART)?;
         Ok(Part { mark, exp })
     }
 
@@ -87,7 +89,13 @@ impl<
             if !is_comma(tokens.kind()) {
                 return Ok(found);
             }
-            found.push(self.part(tokens)?)?;
+            match self.part(tokens) {
+                Ok(part) => found = kept(found, part)?,
+                Err(stop) => {
+                    discard(found);
+                    return Err(stop);
+                }
+            }
         }
         Ok(found)
     }
@@ -105,10 +113,25 @@ impl<
         requires { NestsExp self.now.depth (F.pre self.now.exp) (F.post self.now.exp) }
         ensures { Reads (spec.tuple (spec.knot self.now.depth) start.now left first tokens.old) result tokens.new }
     {
-        let others = self.parts(tokens)?;
-        let close = close(tokens)?;
+        let others = match self.parts(tokens) {
+            Ok(others) => others,
+            Err(stop) => {
+                discard(first);
+                return Err(stop);
+            }
+        };
+        let close = match close(tokens) {
+            Ok(close) => close,
+            Err(stop) => {
+                discard(first);
+                discard(others);
+                return Err(stop);
+            }
+        };
         let count = others.as_slice().len();
         if count == 0 || count > 6 {
+            discard(first);
+            discard(others);
             return Err(Stop::NoParse);
         }
         Ok(Aexp::Tuple(tokens.since(start), left, first, others, close))
@@ -147,7 +170,7 @@ impl<
         ensures { Reads (spec.right_section (spec.knot self.now.depth) start.now left tokens.old) result tokens.new }
     {
         let op = op(tokens)?;
-        let operands = self.plain(tokens)?;
+        let operands = self.plain(tokens, SECTION)?;
         let close = close(tokens)?;
         Ok(Aexp::Right(tokens.since(start), left, op, operands, close))
     }
@@ -159,7 +182,7 @@ impl<
         requires { NestsExp self.now.depth (F.pre self.now.exp) (F.post self.now.exp) }
         ensures { Reads (spec.enclosed (spec.knot self.now.depth) start.now left tokens.old) result tokens.new }
     {
-        let first = self.exp(tokens)?;
+        let first = self.exp(tokens, PARENTHESES)?;
         self.behind(tokens, start, left, first)
     }
 
@@ -183,9 +206,22 @@ impl<
         requires { NestsExp self.now.depth (F.pre self.now.exp) (F.post self.now.exp) }
         ensures { Reads (spec.listed (spec.knot self.now.depth) start.now left tokens.old) result tokens.new }
     {
-        let first = self.exp(tokens)?;
-        let others = self.parts(tokens)?;
-        let close = close_list(tokens)?;
+        let first = self.exp(tokens, LIST)?;
+        let others = match self.parts(tokens) {
+            Ok(others) => others,
+            Err(stop) => {
+                discard(first);
+                return Err(stop);
+            }
+        };
+        let close = match close_list(tokens) {
+            Ok(close) => close,
+            Err(stop) => {
+                discard(first);
+                discard(others);
+                return Err(stop);
+            }
+        };
         Ok(Aexp::List(tokens.since(start), left, first, others, close))
     }
 
@@ -269,7 +305,13 @@ impl<
             if !begins_aexp(tokens.kind()) {
                 return Ok(found);
             }
-            found.push(self.aexp(tokens)?)?;
+            match self.aexp(tokens) {
+                Ok(arg) => found = kept(found, arg)?,
+                Err(stop) => {
+                    discard(found);
+                    return Err(stop);
+                }
+            }
         }
         Ok(found)
     }

@@ -7,6 +7,7 @@ use crate::blocks::{begins_part, block_open, semis};
 use crate::boxes::{boxed_alt_item, kept_alt};
 use crate::finished::alts_closed;
 use crate::held::{discard, kept};
+use crate::levels::{ALTERNATIVE, ALTERNATIVE_GUARD};
 use crate::marks::{arrow, bar, is_bar};
 use crate::reader::Reader;
 use gh_base::ListOf;
@@ -29,9 +30,9 @@ impl<
     {
         let start = tokens.rest();
         let left = bar(tokens)?;
-        let test = self.closed(tokens)?;
+        let test = self.closed(tokens, ALTERNATIVE_GUARD)?;
         let mark = arrow(tokens)?;
-        let body = match self.exp(tokens) {
+        let body = match self.exp(tokens, ALTERNATIVE_GUARD) {
             Ok(body) => body,
             Err(stop) => {
                 discard(test);
@@ -82,7 +83,7 @@ impl<
         ensures { Reads (spec.plain_alt (spec.knot self.now.depth) start.now pattern tokens.old) result tokens.new }
     {
         let mark = tokens.take();
-        let body = match self.exp(tokens) {
+        let body = match self.exp(tokens, ALTERNATIVE) {
             Ok(body) => body,
             Err(stop) => {
                 discard(pattern);

@@ -8,6 +8,7 @@ use crate::blocks::{begins_part, block_open, semis};
 use crate::boxes::{boxed_decl, boxed_decl_item, kept_decl};
 use crate::finished::decls_closed;
 use crate::held::{discard, kept};
+use crate::levels::{BINDING, GUARD, LOCALS};
 use crate::marks::{bar, colons, equals, is_bar};
 use crate::reader::Reader;
 use crate::signatures::{fixity, next_vars, signature_next};
@@ -43,7 +44,7 @@ impl<
         ensures { Reads (decls.where_block (spec.knot self.now.depth) tokens.old) result tokens.new }
     {
         let mark = tokens.take();
-        let decls = self.decls(tokens)?;
+        let decls = self.decls(tokens, LOCALS)?;
         Ok(Where::Block(mark, decls))
     }
 
@@ -69,9 +70,9 @@ impl<
     {
         let start = tokens.rest();
         let left = bar(tokens)?;
-        let test = self.closed(tokens)?;
+        let test = self.closed(tokens, GUARD)?;
         let mark = equals(tokens)?;
-        let body = match self.exp(tokens) {
+        let body = match self.exp(tokens, GUARD) {
             Ok(body) => body,
             Err(stop) => {
                 discard(test);
@@ -117,7 +118,7 @@ impl<
         ensures { Reads (decls.plain_rhs (spec.knot self.now.depth) start.now tokens.old) result tokens.new }
     {
         let mark = tokens.take();
-        let body = self.exp(tokens)?;
+        let body = self.exp(tokens, BINDING)?;
         let locals = match self.where_part(tokens) {
             Ok(locals) => locals,
             Err(stop) => {

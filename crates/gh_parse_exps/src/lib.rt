@@ -9,6 +9,7 @@ mod declarations;
 mod exps;
 mod finished;
 mod held;
+mod levels;
 mod locals;
 mod marks;
 mod narrow;

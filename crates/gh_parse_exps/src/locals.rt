@@ -6,6 +6,7 @@ ghost use Rattle.gh_parse_exps.specs.Exps as spec;
 use crate::blocks::{begins_part, block_open, semis};
 use crate::finished::redefs_closed;
 use crate::held::{discard, kept};
+use crate::levels::REDEFINITION;
 use crate::marks::{banana, close_banana, equals};
 use crate::ops::call_next;
 use crate::reader::Reader;
@@ -48,7 +49,7 @@ impl<
         let variable = word(tokens)?;
         let close = close_banana(tokens)?;
         let mark = equals(tokens)?;
-        let body = self.exp(tokens)?;
+        let body = self.exp(tokens, REDEFINITION)?;
         Ok(Redef {
             span: tokens.since(start),
             function,

@@ -5,6 +5,7 @@ ghost use Rattle.gh_parse_exps.specs.Exps as spec;
 
 use crate::finished::operand_list;
 use crate::held::{discard, kept};
+use crate::levels::{CONDITIONAL, LAMBDA, LET_BODY, OPERAND, SCRUTINEE};
 use crate::marks::{arrow, else_word, in_word, of_word, then_word};
 use crate::narrow::operands_open;
 use crate::ops::{goes_on, minus_sign, op};
@@ -44,7 +45,7 @@ impl<
                 return Err(stop);
             }
         };
-        let body = match self.exp(tokens) {
+        let body = match self.exp(tokens, LAMBDA) {
             Ok(body) => body,
             Err(stop) => {
                 discard(first);
@@ -76,7 +77,7 @@ impl<
                 return Err(stop);
             }
         };
-        let body = match self.exp(tokens) {
+        let body = match self.exp(tokens, LET_BODY) {
             Ok(body) => body,
             Err(stop) => {
                 discard(locals);
@@ -95,7 +96,7 @@ impl<
         ensures { Reads (spec.conditional (spec.knot self.now.depth) start.now tokens.old) result tokens.new }
     {
         let mark = tokens.take();
-        let test = self.exp(tokens)?;
+        let test = self.exp(tokens, CONDITIONAL)?;
         let second = match then_word(tokens) {
             Ok(second) => second,
             Err(stop) => {
@@ -103,7 +104,7 @@ impl<
                 return Err(stop);
             }
         };
-        let yes = match self.exp(tokens) {
+        let yes = match self.exp(tokens, CONDITIONAL) {
             Ok(yes) => yes,
             Err(stop) => {
                 discard(test);
@@ -118,7 +119,7 @@ impl<
                 return Err(stop);
             }
         };
-        let not = match self.exp(tokens) {
+        let not = match self.exp(tokens, CONDITIONAL) {
             Ok(not) => not,
             Err(stop) => {
                 discard(test);
@@ -160,7 +161,7 @@ impl<
         ensures { Reads (spec.case_of (spec.knot self.now.depth) start.now tokens.old) result tokens.new }
     {
         let mark = tokens.take();
-        let scrutinee = self.exp(tokens)?;
+        let scrutinee = self.exp(tokens, SCRUTINEE)?;
         let of = match of_word(tokens) {
             Ok(of) => of,
             Err(stop) => {
@@ -206,7 +207,9 @@ impl<
     {
         let op = op(tokens)?;
         let minus = minus_sign(tokens);
+        tokens.go_down(OPERAND)?;
         let operand = self.operand(tokens)?;
+        tokens.go_up(OPERAND);
         Ok(NextOperand { op, minus, operand })
     }
 

@@ -22,7 +22,7 @@ use Rattle.gh_tree.specs.Syms.{at}
 use Rattle.gh_tree.specs.Print.{Print, print, flat_all, good_all, plain, plain_con, optional}
 use Rattle.gh_tree.specs.Print as printed
 use Rattle.gh_tree.specs.Read.{and_then, taken, kind, expect, covered, is_open, is_close, is_comma, comma_next}
-use Rattle.gh_tree.specs.ReadExports.{any_var, any_var_by, symbol_any, sym_name, sym_by, con, con_by, symbol_con, plain_con_sym, plain_con_sym_by, next_con, next_cons, all_parts, listed_parts, parts_by, parts_opened, some_parts, any_parts, any_parts_by, con_export, module_name, module_name_by, module_export, export, export_by, next_export, goes_on, next_exports, some_exports, export_list, export_list_by, last_comma, last_comma_by, exports}
+use Rattle.gh_tree.specs.ReadExports.{any_var, any_var_by, symbol_any, sym_name, sym_by, con, con_by, symbol_con, plain_con_sym, plain_con_sym_by, next_con, next_cons, all_parts, empty_parts, listed_parts, parts_by, parts_opened, some_parts, any_parts, any_parts_by, con_export, module_name, module_name_by, module_export, export, export_by, next_export, goes_on, next_exports, some_exports, export_list, export_list_by, last_comma, last_comma_by, exports}
 use Rattle.gh_tree.proofs.Steps.{bound, both, and_is, spanned_taken}
 use Rattle.gh_tree.proofs.Many.{Taken, AllTaken, many_sound}
 use Rattle.gh_reader.proofs.Sound.{SoundAt, built, expect_sound, close_sound, comma_first, between, between3}
@@ -136,6 +136,12 @@ all_parts_sound a m ss x rest e =
     let flat : start ≡ at k.Open a ∷ at k.DotDot m ∷ at k.Close h.x ∷ h.mid = ap (λ us. at k.Open a ∷ at k.DotDot m ∷ us) last in
     built parts_print (parts_print (v_Parts.All (covered start h.mid) a m h.x)) start h.mid _ x rest refl h.then flat (spanned_taken start h.mid (at k.Open a ∷ at k.DotDot m ∷ at k.Close h.x ∷ []) true flat refl)
 
+empty_parts_sound : (a b : Span) (ss : List Sym) (x : Parts) (rest : List Sym) → empty_parts (at k.Open a ∷ at k.Close b ∷ ss) a (at k.Close b ∷ ss) ≡ taken x rest → Taken parts_print (at k.Open a ∷ at k.Close b ∷ ss) x rest
+unfolding empty_parts
+empty_parts_sound a b ss x rest e =
+    let start : List Sym = at k.Open a ∷ at k.Close b ∷ ss in
+    built parts_print (parts_print (v_Parts.Empty (covered start ss) a b)) start ss _ x rest refl e refl (spanned_taken start ss (at k.Open a ∷ at k.Close b ∷ []) true refl refl)
+
 listed_parts_sound : (a : Span) (ss : List Sym) (x : Parts) (rest : List Sym) → listed_parts (at k.Open a ∷ ss) a ss ≡ taken x rest → Taken parts_print (at k.Open a ∷ ss) x rest
 unfolding listed_parts
 listed_parts_sound a ss x rest e =
@@ -153,6 +159,7 @@ listed_parts_sound a ss x rest e =
 
 parts_by_sound : (kind : Kind) (a span : Span) (ss : List Sym) (x : Parts) (rest : List Sym) → parts_by (Some kind) (at k.Open a ∷ at kind span ∷ ss) a (at kind span ∷ ss) ≡ taken x rest → Taken parts_print (at k.Open a ∷ at kind span ∷ ss) x rest
 parts_by_sound k.DotDot a m ss x rest e = all_parts_sound a m ss x rest e
+parts_by_sound k.Close a b ss x rest e = empty_parts_sound a b ss x rest e
 parts_by_sound kind a m ss x rest e = listed_parts_sound a (at kind m ∷ ss) x rest e
 
 parts_opened_sound : (a : Span) (ss : List Sym) (x : Parts) (rest : List Sym) → parts_opened (at k.Open a ∷ ss) a ss ≡ taken x rest → Taken parts_print (at k.Open a ∷ ss) x rest

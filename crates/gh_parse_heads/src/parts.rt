@@ -42,6 +42,15 @@ fn all_parts(tokens: &mut Tokens<'_>, start: &[Sym], left: Span) -> Result<Parts
     Ok(Parts::All(tokens.since(start), left, mark, close))
 }
 
+// `)`, behind `(`.
+#[tactic(auto, unfolding(gh_tree::specs::ReadExports::empty_parts))]
+fn empty_parts(tokens: &mut Tokens<'_>, start: &[Sym], left: Span) -> Result<Parts, Stop>
+    ensures { Reads (spec.empty_parts start.now left tokens.old) result tokens.new }
+{
+    let close = tokens.take();
+    Ok(Parts::Empty(tokens.since(start), left, close))
+}
+
 // Constructors and `)`, behind `(`.
 #[tactic(auto, unfolding(gh_tree::specs::ReadExports::listed_parts))]
 fn listed_parts(
@@ -70,6 +79,7 @@ fn parts_opened(
 {
     match tokens.kind() {
         Some(Kind::DotDot) => all_parts(tokens, start, left),
+        Some(Kind::Close) => empty_parts(tokens, start, left),
         _ => listed_parts(alloc, tokens, start, left),
     }
 }

@@ -12,6 +12,9 @@ use gh_reader::{Stop, Tokens, gen_con_next, var_next};
 use gh_tree::{Kind, Sym};
 use std::alloc::Global;
 
+// How many bytes of the stack one level of left sides may use: its readers, the measure of its depth, and its dropping.
+const LEVEL: u32 = 3600;
+
 /// The rules in which a left side may stand inside, with the reader of that one.
 #[derive(Clone, Copy)]
 pub struct Reader<F> {
@@ -30,7 +33,10 @@ impl<F: Fn(Global, &mut Tokens<'_>, usize) -> Result<Side, Stop>> Reader<F> {
         requires { Nests self.now.depth (F.pre self.now.side) (F.post self.now.side) }
         ensures { Reads (spec.side self.now.depth tokens.old) result tokens.new }
     {
-        (self.side)(self.alloc, tokens, self.depth)
+        tokens.go_down(LEVEL)?;
+        let found = (self.side)(self.alloc, tokens, self.depth)?;
+        tokens.go_up(LEVEL);
+        Ok(found)
     }
 
     // `(`, where it begins neither a variable nor a constructor.

@@ -15,6 +15,10 @@ use gh_tree::{ArgPattern, GenCon, Kind, NextPattern, PatOperand, PatPart, Patter
 use sqlite_items::Boxed;
 use std::alloc::Global;
 
+// How many bytes of the stack one level of patterns may use: its readers, the measure of its depth, and its dropping.
+const LEVEL: u32 = 3750;
+
+/// The reader of patterns of the level below.
 #[derive(Clone, Copy)]
 pub struct Reader<F> {
     pub alloc: Global,
@@ -28,7 +32,10 @@ impl<F: Fn(Global, &mut Tokens<'_>, usize) -> Result<Boxed<ArgPattern>, Stop>> R
         requires { Nests self.now.depth (F.pre self.now.arg) (F.post self.now.arg) }
         ensures { Reads (spec.arg self.now.depth tokens.old) result tokens.new }
     {
-        (self.arg)(self.alloc, tokens, self.depth)
+        tokens.go_down(LEVEL)?;
+        let found = (self.arg)(self.alloc, tokens, self.depth)?;
+        tokens.go_up(LEVEL);
+        Ok(found)
     }
 
     fn args(&self, tokens: &mut Tokens<'_>) -> Result<ListOf<ArgPattern>, Stop>

@@ -11,6 +11,10 @@ use gh_tree::{ArgType, Arrow, BType, Kind, Name, Sym, TypeExpr, TypePart};
 use sqlite_items::Boxed;
 use std::alloc::Global;
 
+// How many bytes of the stack one level of types may use: its readers, the measure of its depth, and its dropping.
+const LEVEL: u32 = 3400;
+
+/// The reader of types of the level below.
 #[derive(Clone, Copy)]
 pub struct Reader<F> {
     pub alloc: Global,
@@ -117,7 +121,10 @@ impl<F: Fn(Global, &mut Tokens<'_>, usize) -> Result<Boxed<TypeExpr>, Stop>> Rea
         requires { Nests self.now.depth (F.pre self.now.type_expr) (F.post self.now.type_expr) }
         ensures { Reads (spec.type_expr self.now.depth tokens.old) result tokens.new }
     {
-        (self.type_expr)(self.alloc, tokens, self.depth)
+        tokens.go_down(LEVEL)?;
+        let found = (self.type_expr)(self.alloc, tokens, self.depth)?;
+        tokens.go_up(LEVEL);
+        Ok(found)
     }
 
     // A comma and a type.

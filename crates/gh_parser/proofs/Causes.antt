@@ -66,7 +66,7 @@ no_item tops ss x is = let e : false ≡ true = is.0 in absurd (cc)
 unended_fault : (limit : ℕ) (tops : Bool) (ss : List Sym) (r : Refusal) → item_end_of ss ≡ None → r ≡ no_parse ss → BodyFault limit tops (body_items ss 0) r
 unended_fault limit tops ss r e is =
     subst (λ is. BodyFault limit tops is r) (sym (first_unended ss e))
-    (subst (BodyFault limit tops (not_ended ss ∷ [])) (sym is) (item_has_no_tree tops (not_ended ss) [] (no_item tops ss)))
+    (subst (BodyFault limit tops (not_ended ss ∷ [])) (sym is) (item_has_no_tree tops (not_ended ss) [] (λ x is. absurd (no_item tops ss x is))))
 
 item_limits : (limit : ℕ) (tops : Bool) (ss : List Sym) (is : List TopItem) (r : Refusal) → Limits limit item_depth ss (item_of tops ss) r → BodyFault limit tops (ended ss ∷ is) r
 item_limits limit tops ss is r (no_tree none same) =

@@ -5,7 +5,9 @@ pub mod CompleteFile
 pub mod Covered
 pub mod Ends
 pub mod Found
+pub mod LawsOfReading
 pub mod Loop
+pub mod OneFault
 pub mod ReadBack
 pub mod SoundFile
 pub mod Tops

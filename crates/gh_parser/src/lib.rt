@@ -8,4 +8,6 @@ mod readers;
 mod refusals;
 
 pub use file::parse;
-pub use laws::{has_one_tree, parses_every_tree};
+pub use laws::{
+    gives_first_fault, gives_its_tree, has_one_decls, has_one_exp, has_one_tree, parses_every_tree,
+};

@@ -11,7 +11,7 @@ use gh_tree::Sym;
 /// The deepest tree of an item that is accepted.
 pub const LIMIT: u32 = 2000;
 
-// The bytes from the first to the last of these tokens.
+/// The bytes from the first to the last of these tokens.
 #[tactic(auto, using(crate::proofs::Covered::covered_all))]
 pub fn span_of(syms: &[Sym]) -> Span
     ensures { result ≡ cover syms.now }
@@ -19,7 +19,7 @@ pub fn span_of(syms: &[Sym]) -> Span
     Tokens::new(&[]).since(syms)
 }
 
-// These tokens are those of no tree.
+/// These tokens are those of no tree.
 pub fn no_parse(syms: &[Sym]) -> Fault
     ensures { result ≡ fault.Refused (spec.no_parse syms.now) }
 {
@@ -28,7 +28,7 @@ pub fn no_parse(syms: &[Sym]) -> Fault
     })
 }
 
-// The tree of these tokens is too deep.
+/// The tree of these tokens is too deep.
 pub fn too_deep(syms: &[Sym]) -> Fault
     ensures { result ≡ fault.Refused (spec.too_deep syms.now) }
 {

@@ -3,14 +3,19 @@ ghost use Rattle.std.specs.Prelude.{option_copied, ◌≡◌, [], ◌↔◌, IsT
 ghost use Rattle.gh_tree.specs.Read as read;
 
 use crate::span::cover;
-use gh_base::Span;
+use gh_base::{NoMemory, Span};
 use gh_tree::{Kind, Sym};
 use std::marker::Model;
+
+// How many bytes of the stack the readers of one item may use, of the eight megabytes that a process has.
+const STACK: u32 = 7_600_000;
 
 /// The laid tokens that are still to be read.
 #[derive(Drop)]
 pub struct Tokens<'a> {
     rest: &'a [Sym],
+    /// How many bytes of the stack may still be used.
+    stack: u32,
 }
 
 impl<'a> Model for Tokens<'a> {
@@ -27,7 +32,7 @@ impl<'a> Tokens<'a> {
     pub fn new(rest: &'a [Sym]) -> Tokens<'a>
         ensures { result ≡ rest.now }
     {
-        Tokens { rest }
+        Tokens { rest, stack: STACK }
     }
 
     /// What is still to be read.
@@ -99,5 +104,26 @@ impl<'a> Tokens<'a> {
     {
         let count = before.len().saturating_sub(self.rest.len());
         cover(&before[..count])
+    }
+
+    /// Goes down by one level, whose readers use so many bytes of the stack: want of memory where there are not so many
+    /// left. The tokens stay.
+    pub fn go_down(&mut self, bytes: u32) -> Result<(), NoMemory>
+        ensures { self.new ≡ self.old }
+    {
+        match self.stack.checked_sub(bytes) {
+            None => Err(NoMemory),
+            Some(left) => {
+                self.stack = left;
+                Ok(())
+            }
+        }
+    }
+
+    /// Comes back up from a level of so many bytes. The tokens stay.
+    pub fn go_up(&mut self, bytes: u32)
+        ensures { self.new ≡ self.old }
+    {
+        self.stack = self.stack.saturating_add(bytes);
     }
 }

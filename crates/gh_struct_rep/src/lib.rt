@@ -5,4 +5,4 @@ mod injections;
 mod nesting;
 
 pub use injections::paths;
-pub use nesting::rep;
+pub use nesting::{layers, nest, rep};

@@ -20,7 +20,8 @@ pub fn rep(alloc: Global, decl: &DeclData) -> Result<Ty, NoMemory>
     nest(alloc, SUM, layers.as_slice())
 }
 
-fn layers(alloc: Global, constructors: &[DeclCon]) -> Result<ListOf<Ty>, NoMemory>
+/// The layer of each constructor, in order.
+pub fn layers(alloc: Global, constructors: &[DeclCon]) -> Result<ListOf<Ty>, NoMemory>
     ensures { IfOk result (λ made. made ≡ map layer_of constructors.now) }
 {
     let mut made = ListOf::new(alloc);
@@ -38,8 +39,8 @@ fn layer(alloc: Global, con: &DeclCon) -> Result<Ty, NoMemory>
     Ty::app(alloc, head, fields)
 }
 
-// The parts nested to the right with a type of the Prelude of two arguments.
-fn nest(alloc: Global, join: NameId, parts: &[Ty]) -> Result<Ty, NoMemory>
+/// The parts nested to the right with a type of the Prelude of two arguments: `Unit` for none, and one alone for itself.
+pub fn nest(alloc: Global, join: NameId, parts: &[Ty]) -> Result<Ty, NoMemory>
     ensures { IfOk result (λ term. term ≡ nested (joined join) parts.now) }
 {
     let count = parts.len();

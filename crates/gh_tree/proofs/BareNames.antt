@@ -101,6 +101,7 @@ bare_next_con x = bare_token refl (bare_con x.con)
 bare_parts : (x : Option Parts) → Bare (parts x).flat
 bare_parts None = bare_none
 bare_parts (Some (v_Parts.All s a m b)) = bare_token refl (bare_token refl (bare_token refl bare_none))
+bare_parts (Some (v_Parts.Empty s a b)) = bare_token refl (bare_token refl bare_none)
 bare_parts (Some (v_Parts.Listed s a c cs b)) = bare_token refl (bare_append (bare_con c) (bare_append (bare_all next_con bare_next_con cs) (bare_token refl bare_none)))
 
 bare_export : (x : Export) → Bare (export x).flat

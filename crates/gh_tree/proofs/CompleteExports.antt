@@ -22,7 +22,7 @@ use Rattle.gh_tree.specs.Syms.{at}
 use Rattle.gh_tree.specs.Print.{Print, print, spanned, flat_all, good_all, is_none, plain_con, optional}
 use Rattle.gh_tree.specs.Print as printed
 use Rattle.gh_tree.specs.Read.{and_then, taken, kind, after, covered, is_open, is_close, is_comma, comma_next}
-use Rattle.gh_tree.specs.ReadExports.{any_var, symbol_any, sym_name, con, symbol_con, plain_con_sym, next_con, next_cons, all_parts, listed_parts, parts_opened, some_parts, any_parts, any_parts_by, con_export, module_name, module_export, export, next_export, goes_on, goes_on_by, next_exports, some_exports, export_list, export_list_by, last_comma, exports, ends_export}
+use Rattle.gh_tree.specs.ReadExports.{any_var, symbol_any, sym_name, con, symbol_con, plain_con_sym, next_con, next_cons, all_parts, empty_parts, listed_parts, parts_opened, some_parts, any_parts, any_parts_by, con_export, module_name, module_export, export, next_export, goes_on, goes_on_by, next_exports, some_exports, export_list, export_list_by, last_comma, exports, ends_export}
 use Rattle.gh_tree.proofs.Steps.{chain, both, not_is, spanned_span, some_is}
 use Rattle.gh_tree.proofs.Many.{items_complete}
 
@@ -92,9 +92,10 @@ listed_complete s a c cs b rest good =
     ∙ chain _ read refl
 
 pub parts_complete : (p : Option Parts) (rest : List Sym) → (printed.parts p).good ≡ true → ends_export rest ≡ true → any_parts ((printed.parts p).flat ++ rest) ≡ taken p rest
-unfolding any_parts some_parts parts_opened all_parts listed_parts
+unfolding any_parts some_parts parts_opened all_parts empty_parts listed_parts
 parts_complete None rest good ends = parts_none rest ends
 parts_complete (Some (v_Parts.All s a m b)) rest good ends = ap (λ z. taken (Some (v_Parts.All z a m b)) rest) (spanned_span s rest (at k.Open a ∷ at k.DotDot m ∷ at k.Close b ∷ []) true good)
+parts_complete (Some (v_Parts.Empty s a b)) rest good ends = ap (λ z. taken (Some (v_Parts.Empty z a b)) rest) (spanned_span s rest (at k.Open a ∷ at k.Close b ∷ []) true good)
 parts_complete (Some (v_Parts.Listed s a c cs b)) rest good ends = listed_complete s a c cs b rest good
 
 -- ---- exports

@@ -1,6 +1,7 @@
 -- How deep a tree is: the greatest weight of a path of nodes. A node weighs one; one with a list of operands, arguments,
 -- elements, local bindings, alternatives, guards or types of an arrow weighs as many as that list has parts, where these
--- are more than one. Each production is a node. Names, operators and marks are none.
+-- are more than one. The fields of a constructor's declaration are none of these lists. Each production is a node. Names,
+-- operators and marks are none.
 use Rattle.std.specs.Prelude.{ℕ, ◌+◌, ◌-◌, ◌^◌, min, max, List, [], ◌∷◌, length, map, Option, Some, None}
 use Rattle.gh_tree.specs.declared.types.ArgType.{ArgType, fold-ArgType}
 use Rattle.gh_tree.specs.declared.types.Arrow.{Arrow, fold-Arrow}
@@ -363,7 +364,7 @@ context_depth None = 0
 context_depth (Some c) = 1 + deps_inside c.deps.first
 
 abbrev pub constr_depth : Constr → ℕ
-constr_depth (constr.Prefix s c ts) = weight_of (length ts) + deepest (map arg_type_depth ts)
+constr_depth (constr.Prefix s c ts) = 1 + deepest (map arg_type_depth ts)
 constr_depth (constr.Infix s l o r) = 1 + max (btype_depth l) (btype_depth r)
 
 abbrev pub top_depth : Top → ℕ

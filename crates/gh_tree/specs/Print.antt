@@ -545,6 +545,7 @@ next_con x = print (at k.Comma x.mark ∷ con x.con) (plain_con x.con)
 abbrev pub parts : Option Parts → Print
 parts None = print [] true
 parts (Some (v_Parts.All s a m b)) = spanned s (at k.Open a ∷ at k.DotDot m ∷ at k.Close b ∷ []) true
+parts (Some (v_Parts.Empty s a b)) = spanned s (at k.Open a ∷ at k.Close b ∷ []) true
 parts (Some (v_Parts.Listed s a c cs b)) = spanned s (at k.Open a ∷ (con c ++ (flat_all (map next_con cs) ++ at k.Close b ∷ []))) (plain_con c && good_all (map next_con cs))
 
 abbrev pub export : Export → Print

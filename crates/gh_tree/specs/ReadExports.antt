@@ -74,7 +74,7 @@ next_con = do
 unfoldable pub next_cons : Read (List NextCon)
 next_cons = all comma_next next_con
 
--- the constructors of a type
+-- the constructors of a type: all, none, or some (Haskell 98 Report, 5.2 and 5.3)
 
 unfoldable pub all_parts : List Sym → Span → Read Parts
 all_parts start a = do
@@ -82,6 +82,12 @@ all_parts start a = do
   b ← expect is_close
   s ← since start
   pure (v_Parts.All s a m b)
+
+unfoldable pub empty_parts : List Sym → Span → Read Parts
+empty_parts start a = do
+  b ← next
+  s ← since start
+  pure (v_Parts.Empty s a b)
 
 unfoldable pub listed_parts : List Sym → Span → Read Parts
 listed_parts start a = do
@@ -93,6 +99,7 @@ listed_parts start a = do
 
 abbrev pub parts_by : Option Kind → List Sym → Span → Read Parts
 parts_by (Some k.DotDot) start a = all_parts start a
+parts_by (Some k.Close) start a = empty_parts start a
 parts_by _ start a = listed_parts start a
 
 unfoldable pub parts_opened : List Sym → Span → Read Parts

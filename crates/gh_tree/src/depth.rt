@@ -10,7 +10,7 @@ use crate::expressions::{
 use crate::patterns::{ArgPattern, FunLhs, NextPattern, PatOperand, PatPart, Pattern};
 use crate::types::{ArgType, Arrow, BType, TypeExpr, TypePart};
 
-// A number of parts, or the greatest `u32` where there are more.
+/// A number of parts, or the greatest `u32` where there are more.
 #[tactic(auto, unfolding(crate::specs::Depth::capped))]
 pub fn count_of(count: usize) -> u32
     ensures { result ≡ capped count }
@@ -21,7 +21,7 @@ pub fn count_of(count: usize) -> u32
     }
 }
 
-// A weight, and the depth below it.
+/// A weight, and the depth below it.
 #[tactic(auto, unfolding(crate::specs::Depth::capped_sum))]
 pub fn stacked(weight: u32, below: u32) -> u32
     ensures { result ≡ capped_sum weight below }
@@ -29,14 +29,14 @@ pub fn stacked(weight: u32, below: u32) -> u32
     weight.saturating_add(below)
 }
 
-// The greater of two depths.
+/// The greater of two depths.
 pub fn greater(a: u32, b: u32) -> u32
     ensures { result ≡ max a b }
 {
     if a < b { b } else { a }
 }
 
-// A node that weighs one, over others.
+/// A node that weighs one, over others.
 #[tactic(auto, using(crate::proofs::Capped::one_is))]
 pub fn above(below: u32) -> u32
     ensures { result ≡ capped_sum (capped 1) below }
@@ -44,7 +44,7 @@ pub fn above(below: u32) -> u32
     stacked(1, below)
 }
 
-// A node with a list of so many parts, over others.
+/// A node with a list of so many parts, over others.
 #[tactic(auto, using(crate::proofs::Capped::weight_is))]
 pub fn list_above(count: usize, below: u32) -> u32
     ensures { result ≡ capped_sum (capped (weight_of count)) below }
@@ -52,7 +52,7 @@ pub fn list_above(count: usize, below: u32) -> u32
     stacked(greater(count_of(count), 1), below)
 }
 
-// A node with a list of one part and so many others, over others.
+/// A node with a list of one part and so many others, over others.
 #[tactic(auto, using(crate::proofs::Capped::one_is, crate::proofs::Capped::capped_adds))]
 pub fn parts_above(others: usize, below: u32) -> u32
     ensures { result ≡ capped_sum (capped (1 + others)) below }
@@ -60,6 +60,7 @@ pub fn parts_above(others: usize, below: u32) -> u32
     stacked(stacked(1, count_of(others)), below)
 }
 
+/// The greatest weight of a path in a type, or 2^32 - 1 where it is greater.
 #[cycle(types)]
 #[tactic(auto, using(crate::proofs::DepthAt::type_at))]
 pub fn type_depth(node: &TypeExpr) -> u32
@@ -70,6 +71,7 @@ pub fn type_depth(node: &TypeExpr) -> u32
     parts_above(node.arrows.as_slice().len(), greater(first, rest))
 }
 
+/// The greatest weight of a path in a type applied to types, or 2^32 - 1 where it is greater.
 #[cycle(types)]
 #[tactic(auto, using(crate::proofs::DepthAt::btype_at))]
 pub fn btype_depth(node: &BType) -> u32
@@ -80,6 +82,7 @@ pub fn btype_depth(node: &BType) -> u32
     list_above(node.args.as_slice().len(), greater(head, rest))
 }
 
+/// The greatest weight of a path in an argument of a type, or 2^32 - 1 where it is greater.
 #[cycle(types)]
 #[tactic(auto, using(crate::proofs::DepthAt::arg_type_con, crate::proofs::DepthAt::arg_type_var, crate::proofs::DepthAt::arg_type_unit, crate::proofs::DepthAt::arg_type_no_list, crate::proofs::DepthAt::arg_type_no_arrow, crate::proofs::DepthAt::arg_type_no_tuple, crate::proofs::DepthAt::arg_type_paren, crate::proofs::DepthAt::arg_type_tuple, crate::proofs::DepthAt::arg_type_list))]
 pub fn arg_type_depth(node: &ArgType) -> u32
@@ -102,6 +105,7 @@ pub fn arg_type_depth(node: &ArgType) -> u32
     }
 }
 
+/// The greatest weight of a path in the parts of a type of functions, or 2^32 - 1 where it is greater.
 #[cycle(types)]
 #[tactic(auto, using(crate::proofs::Capped::zero_is, crate::proofs::Capped::push_deepest))]
 pub fn arrows_depth(parts: &[Arrow]) -> u32
@@ -114,6 +118,7 @@ pub fn arrows_depth(parts: &[Arrow]) -> u32
     most
 }
 
+/// The greatest weight of a path in the arguments of a type, or 2^32 - 1 where it is greater.
 #[cycle(types)]
 #[tactic(auto, using(crate::proofs::Capped::zero_is, crate::proofs::Capped::push_deepest))]
 pub fn arg_types_depth(parts: &[ArgType]) -> u32
@@ -126,6 +131,7 @@ pub fn arg_types_depth(parts: &[ArgType]) -> u32
     most
 }
 
+/// The greatest weight of a path in the parts of a tuple of types, or 2^32 - 1 where it is greater.
 #[cycle(types)]
 #[tactic(auto, using(crate::proofs::Capped::zero_is, crate::proofs::Capped::push_deepest))]
 pub fn type_parts_depth(parts: &[TypePart]) -> u32
@@ -138,6 +144,7 @@ pub fn type_parts_depth(parts: &[TypePart]) -> u32
     most
 }
 
+/// The greatest weight of a path in a pattern, or 2^32 - 1 where it is greater.
 #[cycle(patterns)]
 #[tactic(auto, using(crate::proofs::DepthAt::pattern_at))]
 pub fn pattern_depth(node: &Pattern) -> u32
@@ -148,6 +155,7 @@ pub fn pattern_depth(node: &Pattern) -> u32
     parts_above(node.others.as_slice().len(), greater(first, rest))
 }
 
+/// The greatest weight of a path in the further operands of a pattern, or 2^32 - 1 where it is greater.
 #[cycle(patterns)]
 #[tactic(auto, using(crate::proofs::Capped::zero_is, crate::proofs::Capped::push_deepest))]
 pub fn next_patterns_depth(parts: &[NextPattern]) -> u32
@@ -160,6 +168,7 @@ pub fn next_patterns_depth(parts: &[NextPattern]) -> u32
     most
 }
 
+/// The greatest weight of a path in an operand of a pattern, or 2^32 - 1 where it is greater.
 #[cycle(patterns)]
 #[tactic(auto, using(crate::proofs::DepthAt::pat_operand_negative, crate::proofs::DepthAt::pat_operand_arg, crate::proofs::DepthAt::pat_operand_con, crate::proofs::Capped::one_is))]
 pub fn pat_operand_depth(node: &PatOperand) -> u32
@@ -176,6 +185,7 @@ pub fn pat_operand_depth(node: &PatOperand) -> u32
     }
 }
 
+/// The greatest weight of a path in an argument pattern, or 2^32 - 1 where it is greater.
 #[cycle(patterns)]
 #[tactic(auto, using(crate::proofs::DepthAt::arg_pattern_var, crate::proofs::DepthAt::arg_pattern_as, crate::proofs::DepthAt::arg_pattern_wild, crate::proofs::DepthAt::arg_pattern_con, crate::proofs::DepthAt::arg_pattern_int, crate::proofs::DepthAt::arg_pattern_char, crate::proofs::DepthAt::arg_pattern_str, crate::proofs::DepthAt::arg_pattern_paren, crate::proofs::DepthAt::arg_pattern_tuple, crate::proofs::DepthAt::arg_pattern_list))]
 pub fn arg_pattern_depth(node: &ArgPattern) -> u32
@@ -203,6 +213,7 @@ pub fn arg_pattern_depth(node: &ArgPattern) -> u32
     }
 }
 
+/// The greatest weight of a path in argument patterns, or 2^32 - 1 where it is greater.
 #[cycle(patterns)]
 #[tactic(auto, using(crate::proofs::Capped::zero_is, crate::proofs::Capped::push_deepest))]
 pub fn arg_patterns_depth(parts: &[ArgPattern]) -> u32
@@ -215,6 +226,7 @@ pub fn arg_patterns_depth(parts: &[ArgPattern]) -> u32
     most
 }
 
+/// The greatest weight of a path in the parts of a tuple or list of patterns, or 2^32 - 1 where it is greater.
 #[cycle(patterns)]
 #[tactic(auto, using(crate::proofs::Capped::zero_is, crate::proofs::Capped::push_deepest))]
 pub fn pat_parts_depth(parts: &[PatPart]) -> u32
@@ -235,6 +247,7 @@ fn sides_above(left: usize, right: usize, below: u32) -> u32
     stacked(stacked(stacked(2, count_of(left)), count_of(right)), below)
 }
 
+/// The greatest weight of a path in a function's left side, or 2^32 - 1 where it is greater.
 #[tactic(auto, using(crate::proofs::DepthAt::fun_lhs_prefix, crate::proofs::DepthAt::fun_lhs_infix, crate::proofs::DepthAt::fun_lhs_nested))]
 pub fn fun_lhs_depth(node: &FunLhs) -> u32
     ensures { result ≡ capped (spec.fun_lhs_depth node.now) }
@@ -264,6 +277,7 @@ pub fn fun_lhs_depth(node: &FunLhs) -> u32
     }
 }
 
+/// The greatest weight of a path in an expression, or 2^32 - 1 where it is greater.
 #[cycle(exps)]
 #[tactic(auto, using(crate::proofs::DepthAt::exp_plain, crate::proofs::DepthAt::exp_typed))]
 pub fn exp_depth(node: &Exp) -> u32
@@ -278,6 +292,7 @@ pub fn exp_depth(node: &Exp) -> u32
     }
 }
 
+/// The greatest weight of a path in a list of operands, or 2^32 - 1 where it is greater.
 #[cycle(exps)]
 #[tactic(auto, using(crate::proofs::DepthAt::operands_at))]
 pub fn operands_depth(node: &OperandList) -> u32
@@ -288,6 +303,7 @@ pub fn operands_depth(node: &OperandList) -> u32
     parts_above(node.others.as_slice().len(), greater(first, rest))
 }
 
+/// The greatest weight of a path in an operand, or 2^32 - 1 where it is greater.
 #[cycle(exps)]
 #[tactic(auto, using(crate::proofs::DepthAt::operand_apply, crate::proofs::DepthAt::operand_case, crate::proofs::DepthAt::operand_open))]
 pub fn operand_depth(node: &Operand) -> u32
@@ -307,6 +323,8 @@ pub fn operand_depth(node: &Operand) -> u32
     }
 }
 
+/// The greatest weight of a path in an expression that reaches as far to the right as it can, or 2^32 - 1 where it is
+/// greater.
 #[cycle(exps)]
 #[tactic(auto, using(crate::proofs::DepthAt::open_lambda, crate::proofs::DepthAt::open_let, crate::proofs::DepthAt::open_if))]
 pub fn open_depth(node: &Open) -> u32
@@ -331,6 +349,7 @@ pub fn open_depth(node: &Open) -> u32
     }
 }
 
+/// The greatest weight of a path in local declarations or redefinitions, or 2^32 - 1 where it is greater.
 #[cycle(exps)]
 #[tactic(auto, using(crate::proofs::DepthAt::locals_decls, crate::proofs::DepthAt::locals_redefs))]
 pub fn locals_depth(node: &Locals) -> u32
@@ -342,6 +361,7 @@ pub fn locals_depth(node: &Locals) -> u32
     }
 }
 
+/// The greatest weight of a path in a block of redefinitions, or 2^32 - 1 where it is greater.
 #[cycle(exps)]
 #[tactic(auto, using(crate::proofs::DepthAt::redefs_at))]
 pub fn redefs_depth(node: &Redefs) -> u32
@@ -353,6 +373,7 @@ pub fn redefs_depth(node: &Redefs) -> u32
     )
 }
 
+/// The greatest weight of a path in a block of declarations, or 2^32 - 1 where it is greater.
 #[cycle(exps)]
 #[tactic(auto, using(crate::proofs::DepthAt::decls_at))]
 pub fn decls_depth(node: &Decls) -> u32
@@ -364,6 +385,7 @@ pub fn decls_depth(node: &Decls) -> u32
     )
 }
 
+/// The greatest weight of a path in a declaration, or 2^32 - 1 where it is greater.
 #[cycle(exps)]
 #[tactic(auto, using(crate::proofs::DepthAt::decl_signature, crate::proofs::DepthAt::decl_fixity, crate::proofs::DepthAt::decl_function, crate::proofs::DepthAt::decl_pattern))]
 pub fn decl_depth(node: &Decl) -> u32
@@ -383,6 +405,7 @@ pub fn decl_depth(node: &Decl) -> u32
     }
 }
 
+/// The greatest weight of a path in a right side, or 2^32 - 1 where it is greater.
 #[cycle(exps)]
 #[tactic(auto, using(crate::proofs::DepthAt::rhs_plain, crate::proofs::DepthAt::rhs_guarded, crate::proofs::DepthAt::guard_at, crate::proofs::DepthAt::where_absent, crate::proofs::DepthAt::where_block))]
 pub fn rhs_depth(node: &Rhs) -> u32
@@ -412,6 +435,7 @@ pub fn rhs_depth(node: &Rhs) -> u32
     }
 }
 
+/// The greatest weight of a path in a block of alternatives, or 2^32 - 1 where it is greater.
 #[cycle(exps)]
 #[tactic(auto, using(crate::proofs::DepthAt::alts_at))]
 pub fn alts_depth(node: &Alts) -> u32
@@ -423,6 +447,7 @@ pub fn alts_depth(node: &Alts) -> u32
     )
 }
 
+/// The greatest weight of a path in an alternative, or 2^32 - 1 where it is greater.
 #[cycle(exps)]
 #[tactic(auto, using(crate::proofs::DepthAt::alt_plain, crate::proofs::DepthAt::alt_guarded, crate::proofs::DepthAt::alt_guard_at, crate::proofs::DepthAt::where_absent, crate::proofs::DepthAt::where_block))]
 pub fn alt_depth(node: &Alt) -> u32
@@ -452,6 +477,7 @@ pub fn alt_depth(node: &Alt) -> u32
     }
 }
 
+/// The greatest weight of a path in an argument of an application, or 2^32 - 1 where it is greater.
 #[cycle(exps)]
 #[tactic(auto, using(crate::proofs::DepthAt::aexp_var, crate::proofs::DepthAt::aexp_generic, crate::proofs::DepthAt::aexp_con, crate::proofs::DepthAt::aexp_int, crate::proofs::DepthAt::aexp_char, crate::proofs::DepthAt::aexp_str, crate::proofs::DepthAt::aexp_paren, crate::proofs::DepthAt::aexp_tuple, crate::proofs::DepthAt::aexp_list, crate::proofs::DepthAt::aexp_left, crate::proofs::DepthAt::aexp_right))]
 pub fn aexp_depth(node: &Aexp) -> u32
@@ -480,6 +506,7 @@ pub fn aexp_depth(node: &Aexp) -> u32
     }
 }
 
+/// The greatest weight of a path in the further operands of a list, or 2^32 - 1 where it is greater.
 #[cycle(exps)]
 #[tactic(auto, using(crate::proofs::Capped::zero_is, crate::proofs::Capped::push_deepest))]
 pub fn next_operands_depth(parts: &[NextOperand]) -> u32
@@ -492,6 +519,7 @@ pub fn next_operands_depth(parts: &[NextOperand]) -> u32
     most
 }
 
+/// The greatest weight of a path in the arguments of an application, or 2^32 - 1 where it is greater.
 #[cycle(exps)]
 #[tactic(auto, using(crate::proofs::Capped::zero_is, crate::proofs::Capped::push_deepest))]
 pub fn aexps_depth(parts: &[Aexp]) -> u32
@@ -504,6 +532,7 @@ pub fn aexps_depth(parts: &[Aexp]) -> u32
     most
 }
 
+/// The greatest weight of a path in redefinitions, or 2^32 - 1 where it is greater.
 #[cycle(exps)]
 #[tactic(auto, using(crate::proofs::Capped::zero_is, crate::proofs::Capped::push_deepest))]
 pub fn redef_items_depth(parts: &[RedefItem]) -> u32
@@ -516,6 +545,7 @@ pub fn redef_items_depth(parts: &[RedefItem]) -> u32
     most
 }
 
+/// The greatest weight of a path in declarations, or 2^32 - 1 where it is greater.
 #[cycle(exps)]
 #[tactic(auto, using(crate::proofs::Capped::zero_is, crate::proofs::Capped::push_deepest))]
 pub fn decl_items_depth(parts: &[DeclItem]) -> u32
@@ -528,6 +558,7 @@ pub fn decl_items_depth(parts: &[DeclItem]) -> u32
     most
 }
 
+/// The greatest weight of a path in alternatives, or 2^32 - 1 where it is greater.
 #[cycle(exps)]
 #[tactic(auto, using(crate::proofs::Capped::zero_is, crate::proofs::Capped::push_deepest))]
 pub fn alt_items_depth(parts: &[AltItem]) -> u32
@@ -540,6 +571,7 @@ pub fn alt_items_depth(parts: &[AltItem]) -> u32
     most
 }
 
+/// The greatest weight of a path in guards, or 2^32 - 1 where it is greater.
 #[cycle(exps)]
 #[tactic(auto, using(crate::proofs::Capped::zero_is, crate::proofs::Capped::push_deepest))]
 pub fn guards_depth(parts: &[Guard]) -> u32
@@ -552,6 +584,7 @@ pub fn guards_depth(parts: &[Guard]) -> u32
     most
 }
 
+/// The greatest weight of a path in the guards of an alternative, or 2^32 - 1 where it is greater.
 #[cycle(exps)]
 #[tactic(auto, using(crate::proofs::Capped::zero_is, crate::proofs::Capped::push_deepest))]
 pub fn alt_guards_depth(parts: &[AltGuard]) -> u32
@@ -564,6 +597,7 @@ pub fn alt_guards_depth(parts: &[AltGuard]) -> u32
     most
 }
 
+/// The greatest weight of a path in a guard, or 2^32 - 1 where it is greater.
 #[cycle(exps)]
 #[tactic(auto, using(crate::proofs::DepthAt::guard_at))]
 pub fn guard_depth(node: &Guard) -> u32
@@ -573,6 +607,7 @@ pub fn guard_depth(node: &Guard) -> u32
     above(greater(test, exp_depth(&node.body)))
 }
 
+/// The greatest weight of a path in a guard of an alternative, or 2^32 - 1 where it is greater.
 #[cycle(exps)]
 #[tactic(auto, using(crate::proofs::DepthAt::alt_guard_at))]
 pub fn alt_guard_depth(node: &AltGuard) -> u32
@@ -582,6 +617,7 @@ pub fn alt_guard_depth(node: &AltGuard) -> u32
     above(greater(test, exp_depth(&node.body)))
 }
 
+/// The greatest weight of a path in the parts of a tuple or list, or 2^32 - 1 where it is greater.
 #[cycle(exps)]
 #[tactic(auto, using(crate::proofs::Capped::zero_is, crate::proofs::Capped::push_deepest))]
 pub fn exp_parts_depth(parts: &[Part]) -> u32

@@ -117,7 +117,7 @@ fn constr_depth(node: &Constr) -> u32
     match node {
         Constr::Prefix(_, _, fields) => {
             let below = arg_types_depth(fields.as_slice());
-            list_above(fields.as_slice().len(), below)
+            above(below)
         }
         Constr::Infix(_, left, _, right) => {
             let left = btype_depth(left);
@@ -165,6 +165,7 @@ fn top_depth(node: &Top) -> u32
     }
 }
 
+/// The greatest weight of a path in a top item, or 2^32 - 1 where it is greater.
 #[tactic(auto, using(crate::proofs::Capped::one_is, crate::proofs::Capped::capped_adds))]
 pub fn item_depth(node: &Item) -> u32
     ensures { result ≡ capped (spec.item_depth node.now) }
@@ -187,6 +188,7 @@ fn next_items_depth(parts: &[NextItem]) -> u32
     most
 }
 
+/// The greatest weight of a path in a file's header, or 2^32 - 1 where it is greater.
 #[tactic(auto, using(crate::proofs::Capped::zero_is))]
 pub fn header_depth(node: &Option<Header>) -> u32
     ensures { result ≡ capped (spec.header_depth node.now) }
@@ -203,7 +205,8 @@ pub fn header_depth(node: &Option<Header>) -> u32
 impl ModuleTree {
     /// The greatest weight of a path of nodes inside one item, the header being one; 2^32 - 1 where it is greater. A
     /// node weighs one. One with a list of operands, arguments, elements, local bindings, alternatives, guards or
-    /// types of an arrow weighs as many as that list has parts, where these are more than one. It takes no memory.
+    /// types of an arrow weighs as many as that list has parts, where these are more than one; the fields of a
+    /// constructor are no such list. It takes no memory.
     #[tactic(auto, using(crate::proofs::Capped::capped_max, crate::proofs::Capped::capped_is))]
     pub fn depth(&self) -> u32
         ensures { result ≡ min (spec.depth_of self.now) (2 ^ 32 - 1) }

@@ -11,7 +11,6 @@ mod laws;
 mod module_tree;
 mod names;
 mod patterns;
-pub mod program;
 mod symbol;
 mod syms;
 mod tops;
@@ -30,7 +29,6 @@ pub use names::{
     BlockMark, Con, ConOp, FixityWord, GenCon, Name, NextName, NextOp, NextVar, Op, Var, VarOp,
 };
 pub use patterns::{ArgPattern, FunLhs, NextPattern, PatOperand, PatPart, Pattern};
-pub use program::Resolved;
 pub use symbol::{Kind, Sym};
 pub use syms::syms_of;
 pub use tops::{

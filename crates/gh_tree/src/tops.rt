@@ -55,6 +55,8 @@ pub enum Export {
 pub enum Parts {
     /// `(..)`, by its span and its three marks.
     All(Span, Span, Span, Span),
+    /// `()`, by its span and its two marks: the type alone.
+    Empty(Span, Span, Span),
     /// A list of one constructor at least.
     Listed(Span, Span, Con, ListOf<NextCon>, Span),
 }

@@ -1,3 +1,5 @@
 pub mod Representation
 pub mod Terms
 pub mod formers
+pub mod Keys
+pub mod Stores

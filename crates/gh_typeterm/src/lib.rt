@@ -4,6 +4,7 @@
 mod decl;
 mod kind;
 mod shared;
+mod store;
 mod terms;
 mod ty;
 mod walking;
@@ -11,6 +12,7 @@ mod walking;
 pub use decl::{DeclCon, DeclData, copy_decl, share_terms};
 pub use kind::{Kind, copy_kind, same_kind};
 pub use shared::Shared;
+pub use store::TyStore;
 pub use terms::{same, size, substitute};
 pub use ty::{Ty, TyNode};
 pub use walking::{TypeWalk, walk};

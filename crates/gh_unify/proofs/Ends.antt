@@ -6,7 +6,7 @@ use Rattle.gh_typeterm.specs.Terms.{size_of}
 use Rattle.gh_typeterm.specs.declared.ty.TyNode.{TyNode}
 use Rattle.gh_typeterm.specs.declared.ty.TyNode.TheVariants as t
 use Rattle.gh_unify.specs.Types.{Mono, con, var, app, name, Val, inst, has, nodes, head_of, mono}
-use Rattle.gh_unify.specs.Kept.{AreDrawn, CanBeMet, Eqs, Drawn, is_rigid, drawn_of, eqs_of, type_in, Solves, IsSolution, SolvesBoth, InScope, InSize, level_of, IsRead}
+use Rattle.gh_unify.specs.Kept.{AreDrawn, CanBeMet, HasValues, MostGeneral, Eqs, Drawn, is_rigid, drawn_of, eqs_of, type_in, Solves, IsSolution, SolvesBoth, InScope, InSize, level_of, IsRead}
 use Rattle.gh_unify.specs.Causes.{IsFixed, Differ, IsLarger, Shows, HasNone, Lacks}
 use Rattle.gh_unify.specs.Tables.{best, value_of}
 use Rattle.gh_unify.specs.Steps.{IsTidy, IsSettled, Reached, Blocked, Leaves, Exceeds, Stays}
@@ -14,7 +14,7 @@ use Rattle.gh_unify.specs.declared.table.Variable.{Variable}
 use Rattle.gh_unify.specs.declared.unifier.UnifyFault.{UnifyFault}
 use Rattle.gh_unify.specs.declared.unifier.UnifyFault.TheVariants.{Clash, Occurs, Escapes, TooLarge, NoMemory}
 use Rattle.gh_unify.proofs.Insts.{IsVar, no_cycle, has-inst, nodes-inst, eqb-same, eqb-is, true-either}
-use Rattle.gh_unify.proofs.Solved.{forced_holds, is_best}
+use Rattle.gh_unify.proofs.Solved.{forced_holds, forced_values, is_best}
 use Rattle.gh_unify.proofs.Reading.{mono-Var, mono-App, nodes-mono}
 use Rattle.gh_unify.proofs.Tables.{drawn_length, level_entry, type_entry}
 
@@ -65,6 +65,13 @@ made_from kept made a b e r ρ s = subst (λ (D : Drawn). Solves (eqs_of made) D
   equal = λ v u k. forced_holds (eqs_of kept) (drawn_of kept) (mono a) (mono b) (var v) u ρ s.0 s.1 (r.kept v u k);
   rigid = s.0.rigid;
 })
+
+pub made_values : (kept made : List Variable) (a b : TyNode) → Reached kept a b made
+    → (ρ : Val) → HasValues kept ρ → inst ρ (mono a) ≡ inst ρ (mono b) → HasValues made ρ
+made_values kept made a b r ρ s e v t k = forced_values (eqs_of kept) (mono a) (mono b) (var v) t ρ s e (r.kept v t k)
+
+pub best_general : (kept now : List Variable) → IsTidy (eqs_of kept) (drawn_of kept) → kept ≡ now → MostGeneral now (best (eqs_of now))
+best_general kept now tidy e = subst (λ k. MostGeneral k (best (eqs_of k))) e (is_best (eqs_of kept) (drawn_of kept) tidy)
 
 pub made_to : (kept made : List Variable) (a b : TyNode) → drawn_of made ≡ drawn_of kept → Reached kept a b made
     → (ρ : Val) → IsSolution made ρ → SolvesBoth kept a b ρ

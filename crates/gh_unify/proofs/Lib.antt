@@ -7,3 +7,5 @@ pub mod Tables
 pub mod Steps
 pub mod Going
 pub mod Ends
+pub mod Levels
+pub mod ValueExamples

@@ -22,6 +22,20 @@ forced_holds E D a b _ _ ρ h e (args f x g y p) =
 forced_holds E D a b _ _ ρ h e (applied f x g y p q) =
     λ i. app (forced_holds E D a b f g ρ h e p i) (forced_holds E D a b x y ρ h e q i)
 
+-- and in every valuation that has the values of what is solved
+pub forced_values : (E : Eqs) (a b s t : Mono) (ρ : Val) → ((v : ℕ) (t : Mono) → E v ≡ Some t → ρ v ≡ inst ρ t) → inst ρ a ≡ inst ρ b → Forced E a b s t → inst ρ s ≡ inst ρ t
+forced_values E a b _ _ ρ h e given = e
+forced_values E a b _ _ ρ h e (stated v t k) = h v t k
+forced_values E a b _ _ ρ h e (same s) = refl
+forced_values E a b _ _ ρ h e (turned s t p) = sym (forced_values E a b s t ρ h e p)
+forced_values E a b _ _ ρ h e (through s t u p q) = forced_values E a b s t ρ h e p ∙ forced_values E a b t u ρ h e q
+forced_values E a b _ _ ρ h e (heads f x g y p) =
+    let k : app (inst ρ f) (inst ρ x) ≡ app (inst ρ g) (inst ρ y) = forced_values E a b (app f x) (app g y) ρ h e p in cc
+forced_values E a b _ _ ρ h e (args f x g y p) =
+    let k : app (inst ρ f) (inst ρ x) ≡ app (inst ρ g) (inst ρ y) = forced_values E a b (app f x) (app g y) ρ h e p in cc
+forced_values E a b _ _ ρ h e (applied f x g y p q) =
+    λ i. app (forced_values E a b f g ρ h e p i) (forced_values E a b x y ρ h e q i)
+
 -- a type is forced to be equal to what it becomes where each variable is replaced by a type that it is forced to equal
 pub forced_inst : (E : Eqs) (a b : Mono) (σ : Val) (t : Mono) → ((v : ℕ) → Forced E a b (var v) (σ v)) → Forced E a b t (inst σ t)
 forced_inst E a b σ (con c) h = same (con c)

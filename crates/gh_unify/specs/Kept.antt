@@ -45,6 +45,10 @@ pub record Solves (E : Eqs) (D : Drawn) (ρ : Val) : Type 0 where
   pub equal : (v : ℕ) (t : Mono) → E v ≡ Some t → ρ v ≡ inst ρ t
   pub rigid : (v : ℕ) → IsTrue (is_rigid D v) → ρ v ≡ var v
 
+-- each solved variable has the value of its type, whatever the values of rigid ones are
+abbrev pub HasValues : List Variable → Val → Type 0
+HasValues kept ρ = (v : ℕ) (t : Mono) → eqs_of kept v ≡ Some t → ρ v ≡ inst ρ t
+
 -- no variable's value holds a rigid variable of a greater level than its own
 abbrev pub InScope : Drawn → Val → Type 0
 InScope D ρ = (v r : ℕ) → v < length D → IsTrue (is_rigid D r) → IsTrue (has r (ρ v)) → level_of D r ≤ level_of D v

@@ -82,8 +82,8 @@ fn flexible(kept: &[Variable], term: &Ty) -> Option<u32>
     }
 }
 
-// Whether a variable occurs.
-fn occurs(v: u32, term: &Ty) -> bool
+/// Whether a variable occurs.
+pub fn occurs(v: u32, term: &Ty) -> bool
     ensures { result ≡ has v (mono term.now) }
 {
     match term.get() {

@@ -1,12 +1,13 @@
 // The unifier, and its refusals.
 ghost use Rattle.std.specs.Prelude.{◌≡◌, ◌↔◌, ℕ, ◌+◌, ◌-◌, ◌<◌, ◌≤◌, ◌^◌, [], ◌∷◌, ◌++◌, None, true, false, IfOk, IsTrue, MatchOption, MatchResult, OnOk, OnErr, length};
-ghost use Rattle.gh_unify.specs.Types.{Val, has, mono, nodes};
-ghost use Rattle.gh_unify.specs.Kept.{AreDrawn, CanBeMet, InScope, InSize, IsRead, IsSolution, SolvesBoth, drawn_of, eqs_of, is_rigid, level_of};
+ghost use Rattle.gh_unify.specs.Types.{Val, has, inst, mono, nodes};
+ghost use Rattle.gh_unify.specs.Kept.{AreDrawn, CanBeMet, HasValues, InScope, InSize, IsRead, IsSolution, MostGeneral, SolvesBoth, drawn_of, eqs_of, is_rigid, level_of};
 ghost use Rattle.gh_unify.specs.Causes.{Lacks, Shows};
+ghost use Rattle.gh_unify.specs.Levels.{IsLeast, IsLowered, IsReached};
 ghost use Rattle.gh_unify.specs.Steps.{Exceeds, IsSettled, IsTidy, Leaves, Stays};
 ghost use Rattle.gh_unify.specs.Tables.{best};
 
-use crate::solving::solve;
+use crate::solving::{occurs, solve};
 use crate::table::{Variable, read};
 use gh_base::NoMemory;
 use gh_typeterm::{Ty, TyNode, size};
@@ -123,6 +124,8 @@ impl Unifier {
         requires right { AreDrawn self.old b.now }
         // The solutions are those of the old equations and the new one together.
         ensures solutions { OnOk result ((ρ : Val) → IsSolution self.new ρ ↔ SolvesBoth self.old a.now b.now ρ) }
+        // What holds of all solutions holds too where rigid variables have other values.
+        ensures values { OnOk result ((ρ : Val) → HasValues self.old ρ → inst ρ (mono a.now) ≡ inst ρ (mono b.now) → HasValues self.new ρ) }
         // What was drawn stays.
         ensures drawn { OnOk result (drawn_of self.new ≡ drawn_of self.old) }
         // Before and after the call there is a solution in scope and in size.
@@ -150,10 +153,60 @@ impl Unifier {
     /// A type under the most general solution.
     pub fn read(&self, a: &Ty) -> Result<Ty, NoMemory>
         requires { AreDrawn self.now a.now }
-        ensures { IfOk result (λ made. IsRead self.now a.now made) }
+        ensures read { IfOk result (λ made. IsRead self.now a.now made) }
+        // It is one most general solution, whatever is read.
+        ensures general { MostGeneral self.now (best (eqs_of self.now)) }
+        ensures value { IfOk result (λ made. mono made ≡ inst (best (eqs_of self.now)) (mono a.now)) }
     {
         read(self.alloc, self.kept.as_slice(), a)
     }
+
+    /// The least level of the variables whose type under the most general solution holds this one, itself included: the
+    /// level of the outermost scope that it reaches. It takes no memory.
+    pub fn level(&self, var: u32) -> u32
+        requires { var < length self.now }
+        ensures least { IsLeast self.now var (length self.now) result }
+        // An unsolved variable is in its own type at least; a solved one is in none.
+        ensures reached { eqs_of self.now var ≡ None → IsReached self.now var result }
+    {
+        least_level(self.kept.as_slice(), var)
+    }
+}
+
+// Whether the type of a variable holds a variable.
+fn holds(kept: &[Variable], number: u32, var: u32) -> bool
+    requires { number < length kept.now }
+    ensures { result ≡ has var (best (eqs_of kept.now) number) }
+{
+    match &kept[number as usize].term {
+        None => var == number,
+        Some(term) => occurs(var, term),
+    }
+}
+
+// The lesser of a level and that of a variable whose type holds the other one.
+fn lower(kept: &[Variable], number: u32, var: u32, least: u32) -> u32
+    requires { number < length kept.now }
+    ensures { IsLowered kept.now var number least result }
+{
+    if holds(kept, number, var) {
+        return least.min(kept[number as usize].level);
+    }
+    least
+}
+
+// The least level of the variables whose types hold a variable.
+fn least_level(kept: &[Variable], var: u32) -> u32
+    requires drawn { var < length kept.now }
+    requires count { length kept.now < 2 ^ 32 }
+    ensures least { IsLeast kept.now var (length kept.now) result }
+    ensures reached { eqs_of kept.now var ≡ None → IsReached kept.now var result }
+{
+    let mut least = kept[var as usize].level;
+    for number in 0..kept.len() as u32 {
+        least = lower(kept, number, var, least);
+    }
+    least
 }
 
 // A rigid variable in a type, of a level greater than this one.

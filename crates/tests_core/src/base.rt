@@ -1,6 +1,9 @@
 // One call of each public function, with ample memory.
 use gh_base::fixed::{FIXED, MAIN, WHERE};
-use gh_base::{Bytes, ListOf, NameId, Names, NoMemory, Origin, Refusal, Space, Span, TyCon};
+use gh_base::{
+    Bytes, ListOf, NameId, Names, NoMemory, Origin, Refusal, Space, Span, TyCon,
+    constants_name_their_words,
+};
 use std::process::Abort;
 use std::test::Fail;
 
@@ -51,6 +54,8 @@ fn one_text_has_one_number(rt: HostRuntime) -> Result<(), Fail> {
 fn a_number_gives_its_text(rt: HostRuntime) -> Result<(), Fail> {
     let mut names = Names::new(rt.alloc())?;
     let tree = names.intern(b"tree")?;
+    names.begins_with_fixed();
+    constants_name_their_words();
     assert_eq!(rt; names.text(tree), b"tree".as_slice());
     Ok(())
 }

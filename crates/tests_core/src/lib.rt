@@ -2,6 +2,8 @@
 #![tactic(auto)]
 
 #[cfg(test)]
+mod adapt;
+#[cfg(test)]
 mod base;
 #[cfg(test)]
 mod bindings;
@@ -18,14 +20,20 @@ mod groups;
 #[cfg(test)]
 mod kernel;
 #[cfg(test)]
+mod kind_index;
+#[cfg(test)]
 mod machine;
 #[cfg(test)]
 mod outside;
 #[cfg(test)]
 mod struct_rep;
 #[cfg(test)]
+mod type_store;
+#[cfg(test)]
 mod typeterm;
 #[cfg(test)]
 mod unify;
+#[cfg(test)]
+mod unify_levels;
 #[cfg(test)]
 mod unify_trial;

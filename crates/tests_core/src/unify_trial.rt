@@ -25,7 +25,7 @@ fn is_below(term: &Ty, count: u32) -> bool
     }
 }
 
-// A unifier of a test.
+/// A unifier of a test.
 #[derive(Drop)]
 pub struct Trial {
     alloc: Global,
@@ -35,6 +35,7 @@ pub struct Trial {
 }
 
 impl Trial {
+    /// No variable and no equation.
     pub fn new(alloc: Global) -> Trial {
         Trial {
             alloc,
@@ -43,6 +44,7 @@ impl Trial {
         }
     }
 
+    /// A new variable of this level, counted.
     pub fn fresh(&mut self, rt: &impl Abort, level: u32) -> Result<u32, NoMemory> {
         assert!(rt; self.count < 1000);
         let number = self.unifier.fresh(level)?;
@@ -50,6 +52,7 @@ impl Trial {
         Ok(number)
     }
 
+    /// A new rigid variable of this level, counted.
     pub fn rigid(&mut self, rt: &impl Abort, level: u32) -> Result<u32, NoMemory> {
         assert!(rt; self.count < 1000);
         let number = self.unifier.rigid(level)?;
@@ -57,6 +60,7 @@ impl Trial {
         Ok(number)
     }
 
+    /// The equation of two types, whose variables were all drawn, given to the unifier.
     pub fn unify(&mut self, rt: &impl Abort, a: &Ty, b: &Ty) -> Result<(), UnifyFault> {
         assert!(rt; is_below(a, self.count));
         assert!(rt; is_below(b, self.count));
@@ -68,8 +72,15 @@ impl Trial {
         self.unify(rt, a, b).is_ok()
     }
 
+    /// A type under the solution so far.
     pub fn read(&self, rt: &impl Abort, a: &Ty) -> Result<Ty, NoMemory> {
         assert!(rt; is_below(a, self.count));
         self.unifier.read(a)
+    }
+
+    /// The level that a variable, which was drawn, reaches.
+    pub fn level(&self, rt: &impl Abort, var: u32) -> u32 {
+        assert!(rt; var < self.count);
+        self.unifier.level(var)
     }
 }

@@ -14,7 +14,7 @@ fn sym(kind: Kind, from: u32) -> Sym {
     }
 }
 
-// So many opening brackets, a name, and so many closing ones.
+/// So many opening brackets, a name, and so many closing ones.
 pub fn nested(alloc: Global, opening: u32, closing: u32) -> Result<ListOf<Sym>, NoMemory> {
     let mut syms = ListOf::new(alloc);
     for i in 0..opening {

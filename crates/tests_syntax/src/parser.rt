@@ -61,6 +61,12 @@ const FILES: &[(&str, &str)] = &[
     ("{ main = x ; }", "top 1"),
     ("module M (main) where { ; import A ; main = x }", "empty 2"),
     ("import A\nmain = x", "import 1"),
+    // The list of a type's constructors may be empty.
+    ("module M (main, T ()) where { main = x }", "top 0"),
+    ("module M (T(), U(..), V(C)) where { main = x }", "top 0"),
+    ("import A hiding (T())\nmain = x", "import 1"),
+    ("import A (T(), U(C))\nmain = x", "import 1"),
+    ("module M (T(,)) where { main = x }", "no parse 0-21"),
     ("data T a b c d e f g h i = T", "top 0"),
     // The bytes are those of the whole item, and the first item that is refused is named.
     ("main = = \"\"", "no parse 0-11"),
@@ -76,6 +82,22 @@ fn files_are_read(rt: HostRuntime) -> Result<(), Fail> {
     for (text, want) in FILES {
         assert!(rt; shown(&rt, rt.alloc(), text)?.as_str() == *want, "{text}");
     }
+    Ok(())
+}
+
+// The fields of a constructor do not weigh: an item, a declaration, a constructor and a field are four nodes.
+fn fields(alloc: Global, count: u32) -> Result<String, AllocError> {
+    let mut text = format!(in alloc; "data T = C")?;
+    for _ in 0..count {
+        text.push_str(" a")?;
+    }
+    Ok(text)
+}
+
+#[test]
+fn many_fields_are_not_deep(rt: HostRuntime) -> Result<(), Fail> {
+    let text = fields(rt.alloc(), 1998)?;
+    assert!(rt; shown(&rt, rt.alloc(), text.as_str())?.as_str() == "top 0");
     Ok(())
 }
 

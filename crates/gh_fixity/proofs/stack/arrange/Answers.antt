@@ -1,10 +1,12 @@
-use Rattle.std.proofs.Common.{◌≡◌, ◌+◌, Some, None, ap, sym, subst, ◌∙◌, drop}
+use Rattle.std.proofs.Common.{◌≡◌, ◌+◌, Option, Some, None, ℕ, ap, sym, subst, ◌∙◌, drop}
 use Rattle.gh_fixity.specs.declared.item.Arranged.{Arranged}
 use Rattle.gh_fixity.specs.declared.item.Item.TheVariants as item
 use Rattle.gh_fixity.specs.Arrangement.{minus_sign, op_at, Clashes, IsNearest, Arranges, tree_in, fixity_in, or_default}
 use Rattle.gh_fixity.specs.Frames.{opens}
 use Rattle.gh_fixity.specs.Stack.{step, goes, closed}
+use Rattle.gh_fixity.specs.Settle.{settle, fails}
 use Rattle.gh_fixity.proofs.Laws.{arranges}
+use Rattle.gh_fixity.proofs.Settling.{minus_stops, op_stops, settles}
 use Rattle.gh_fixity.proofs.Places.{leaf_read}
 use Rattle.gh_fixity.proofs.Turns.{at_item, leaf_turn, minus_turn, op_turn, minus_clashes, op_clashes, clash_from, HasTurn}
 use Rattle.gh_fixity.proofs.stack.arrange.Goals as goal
@@ -33,6 +35,35 @@ returns-in-Err-put_operator-clause-clash c =
     (Clashes c.args.items.now)
     (λ left right h. op_clashes xs c.loop-at.at gs c.args.items.now c.in-Some.leaf c.in-Op.fixity c.in-Op.field-1 left right c.as_slice-list.ensures c.requires
     (at_item xs c.loop-at.at (item.Leaf 0) (item.Op c.in-Op.fixity c.in-Op.field-1) c.loop-at-test.true c.in-Op.is) t h)
+    c.in-Err-put_operator.ensures.clash
+
+pub returns-in-Err-clause-settled : goal.returns-in-Err-clause-settled
+returns-in-Err-clause-settled c =
+    let xs = c.as_slice-list.result.now in
+    let gs = opens xs c.loop-at.frames.items in
+    let t : HasTurn xs c.loop-at.at gs c.loop-at.last = record { reads = c.loop-at.invariant.reads; grammar = c.loop-at.invariant.grammar } in
+    clash_from (Unit {0}) Arranged c.in-Err.fault
+    (λ left right. (right ≡ c.loop-at.at) × (left + 1 ≡ right) × (step gs None minus_sign ≡ None))
+    (λ left right. (root : Option ℕ) → settle c.args.items.now root ≡ fails left right)
+    (λ left right h. settles c.args.items.now left right (minus_stops xs c.args.items.now c.loop-at.at gs c.loop-at.last c.in-Minus.field-0 left right c.as_slice-list.ensures
+    (at_item xs c.loop-at.at (item.Leaf 0) (item.Minus c.in-Minus.field-0) c.loop-at-test.true c.in-Minus.is) t h)
+    (minus_clashes xs c.loop-at.at gs c.args.items.now c.loop-at.last c.in-Minus.field-0 left right c.as_slice-list.ensures c.requires
+    (at_item xs c.loop-at.at (item.Leaf 0) (item.Minus c.in-Minus.field-0) c.loop-at-test.true c.in-Minus.is) t h).other)
+    c.in-Err.ensures.clash
+
+pub returns-in-Err-put_operator-clause-settled : goal.returns-in-Err-put_operator-clause-settled
+returns-in-Err-put_operator-clause-settled c =
+    let xs = c.as_slice-list.result.now in
+    let gs = opens xs c.loop-at.frames.items in
+    let t : HasTurn xs c.loop-at.at gs (Some c.in-Some.leaf)
+    = subst (HasTurn xs c.loop-at.at gs) c.in-Some.is (record { reads = c.loop-at.invariant.reads; grammar = c.loop-at.invariant.grammar }) in
+    clash_from (Unit {0}) Arranged c.in-Err-put_operator.fault
+    (λ left right. (right ≡ c.loop-at.at) × IsNearest xs c.in-Op.fixity.level left right × (step gs (Some c.in-Some.leaf) (op_at c.loop-at.at c.in-Op.fixity) ≡ None))
+    (λ left right. (root : Option ℕ) → settle c.args.items.now root ≡ fails left right)
+    (λ left right h. settles c.args.items.now left right (op_stops xs c.args.items.now c.loop-at.at gs c.in-Some.leaf c.in-Op.fixity c.in-Op.field-1 left right c.as_slice-list.ensures
+    (at_item xs c.loop-at.at (item.Leaf 0) (item.Op c.in-Op.fixity c.in-Op.field-1) c.loop-at-test.true c.in-Op.is) t h)
+    (op_clashes xs c.loop-at.at gs c.args.items.now c.in-Some.leaf c.in-Op.fixity c.in-Op.field-1 left right c.as_slice-list.ensures c.requires
+    (at_item xs c.loop-at.at (item.Leaf 0) (item.Op c.in-Op.fixity c.in-Op.field-1) c.loop-at-test.true c.in-Op.is) t h).other)
     c.in-Err-put_operator.ensures.clash
 
 pub put_operator-requires-clause-here : goal.put_operator-requires-clause-here

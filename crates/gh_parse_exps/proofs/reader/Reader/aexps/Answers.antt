@@ -14,15 +14,15 @@ loop-turn-init g c = begin begins_aexp (aexp (knot c.args.self.now.depth)) _ c.n
 
 pub loop-turn-preserved : goal.loop-turn-preserved
 loop-turn-preserved g c =
-    rw c.in_ok-push.ensures.ok (more begins_aexp (aexp (knot c.args.self.now.depth)) _ _ c.loop-turn._turn c.loop-turn.found c.in_ok-aexp.field-0 c.loop-turn.tokens c.aexp.new.tokens c.loop-turn-test.true (search rules) (search rules) c.loop-turn.invariant)
+    rw c.in_ok-found-in-Ok.ensures (more begins_aexp (aexp (knot c.args.self.now.depth)) _ _ c.loop-turn._turn c.loop-turn.found c.in-Ok.arg c.loop-turn.tokens c.aexp.new.tokens c.loop-turn-test.true (search rules) (search rules) c.loop-turn.invariant)
 
 pub returns-then-not-begins_aexp : goal.returns-then-not-begins_aexp
 returns-then-not-begins_aexp g c = stops begins_aexp (aexp (knot c.args.self.now.depth)) _ _ c.loop-turn.found c.loop-turn.tokens (search rules) c.loop-turn.invariant
 
-pub returns-in_err-aexp : goal.returns-in_err-aexp
-returns-in_err-aexp g c =
-    let e : Fails c.in_err-aexp.field-0.0 ((aexps (knot c.args.self.now.depth)) c.args.tokens.now) =
-    fails_at begins_aexp (aexp (knot c.args.self.now.depth)) c.in_err-aexp.field-0.0 _ _ c.loop-turn._turn c.loop-turn.found c.loop-turn.tokens c.loop-turn-test.true (search rules) c.loop-turn.invariant c.in_err-aexp.ensures in
+pub returns-in-Err : goal.returns-in-Err
+returns-in-Err g c =
+    let e : Fails c.in-Err.stop ((aexps (knot c.args.self.now.depth)) c.args.tokens.now) =
+    fails_at begins_aexp (aexp (knot c.args.self.now.depth)) c.in-Err.stop _ _ c.loop-turn._turn c.loop-turn.found c.loop-turn.tokens c.loop-turn-test.true (search rules) c.loop-turn.invariant c.in-Err.ensures in
     first_of (search rules, grind (arith, common_steps))
 
 pub returns : goal.returns

@@ -14,15 +14,15 @@ loop-turn-init g c = begin comma_next (part (knot c.args.self.now.depth)) _ c.ne
 
 pub loop-turn-preserved : goal.loop-turn-preserved
 loop-turn-preserved g c =
-    rw c.in_ok-push.ensures.ok (more comma_next (part (knot c.args.self.now.depth)) _ _ c.loop-turn._turn c.loop-turn.found c.in_ok-part.field-0 c.loop-turn.tokens c.part.new.tokens c.loop-turn-test.true (search rules) (search rules) c.loop-turn.invariant)
+    rw c.in_ok-found-in-Ok.ensures (more comma_next (part (knot c.args.self.now.depth)) _ _ c.loop-turn._turn c.loop-turn.found c.in-Ok.part c.loop-turn.tokens c.part.new.tokens c.loop-turn-test.true (search rules) (search rules) c.loop-turn.invariant)
 
 pub returns-then-not-is_comma : goal.returns-then-not-is_comma
 returns-then-not-is_comma g c = stops comma_next (part (knot c.args.self.now.depth)) _ _ c.loop-turn.found c.loop-turn.tokens (search rules) c.loop-turn.invariant
 
-pub returns-in_err-part : goal.returns-in_err-part
-returns-in_err-part g c =
-    let e : Fails c.in_err-part.field-0.0 ((parts (knot c.args.self.now.depth)) c.args.tokens.now) =
-    fails_at comma_next (part (knot c.args.self.now.depth)) c.in_err-part.field-0.0 _ _ c.loop-turn._turn c.loop-turn.found c.loop-turn.tokens c.loop-turn-test.true (search rules) c.loop-turn.invariant c.in_err-part.ensures in
+pub returns-in-Err : goal.returns-in-Err
+returns-in-Err g c =
+    let e : Fails c.in-Err.stop ((parts (knot c.args.self.now.depth)) c.args.tokens.now) =
+    fails_at comma_next (part (knot c.args.self.now.depth)) c.in-Err.stop _ _ c.loop-turn._turn c.loop-turn.found c.loop-turn.tokens c.loop-turn-test.true (search rules) c.loop-turn.invariant c.in-Err.ensures in
     first_of (search rules, grind (arith, common_steps))
 
 pub returns : goal.returns

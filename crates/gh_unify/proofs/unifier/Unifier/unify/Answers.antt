@@ -3,7 +3,7 @@ use Rattle.gh_unify.specs.Kept.{drawn_of, eqs_of, InScope, InSize}
 use Rattle.gh_unify.specs.Tables.{best}
 use Rattle.gh_unify.specs.Steps.{IsSettled, Reached, Blocked, Leaves, Exceeds}
 use Rattle.gh_unify.specs.declared.table.Variable.{Variable}
-use Rattle.gh_unify.proofs.Ends.{settled_met, blocked_lacks, blocked_shows, leaves_both, exceeds_both, made_from, made_to, made_settled}
+use Rattle.gh_unify.proofs.Ends.{settled_met, blocked_lacks, blocked_shows, leaves_both, exceeds_both, made_from, made_to, made_settled, made_values}
 use Rattle.gh_unify.proofs.unifier.Unifier.unify.Goals as goal
 
 pub returns-in-Err-clause-before : goal.returns-in-Err-clause-before
@@ -124,6 +124,15 @@ returns-clause-solutions c =
     let e = subst (λ (k : List Variable). drawn_of made ≡ drawn_of k) is c.in-Ok.ensures.drawn in
     let r = subst (λ (k : List Variable). Reached k a b made) is c.in-Ok.ensures.ok in
     λ ρ. (made_to now made a b e r ρ, made_from now made a b e r ρ)
+
+pub returns-clause-values : goal.returns-clause-values
+returns-clause-values c =
+    let now = c.args.self.now in
+    let a = c.args.a.now in
+    let b = c.args.b.now in
+    let is = c.as_slice.ensures.value ∙ c.self.view_is in
+    let made = c.in-Ok.made.items in
+    made_values now made a b (subst (λ (k : List Variable). Reached k a b made) is c.in-Ok.ensures.ok)
 
 pub returns-clause-after : goal.returns-clause-after
 returns-clause-after c =

@@ -1,0 +1,14 @@
+pub mod Erasures
+pub mod FromRuns
+pub mod FromTyped
+pub mod PairForms
+pub mod PairRuns
+pub mod PairSteps
+pub mod PairStripped
+pub mod Placing
+pub mod Running
+pub mod Shapes
+pub mod Steps
+pub mod Stripped
+pub mod ToRuns
+pub mod ToTyped

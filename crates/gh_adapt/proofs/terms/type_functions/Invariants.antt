@@ -1,0 +1,7 @@
+use Rattle.std.proofs.Common.{◌≡◌, drop}
+use Rattle.gh_core.specs.Typing.{code_of}
+use Rattle.gh_adapt.specs.Typed.{tylams}
+use Rattle.gh_adapt.proofs.terms.type_functions.Given as goal
+
+abbrev pub invariant-loop-i : goal.invariant-loop-i
+invariant-loop-i l = code_of l.made ≡ tylams l.i (drop l.i l.kinds) (code_of l.initial.made)

@@ -1,0 +1,9 @@
+pub mod Conversions
+pub mod Goes
+pub mod PairGoes
+pub mod Pairs
+pub mod Strip
+pub mod Typed
+pub mod TypedPairs
+pub mod Types
+pub mod Untyped

@@ -1,0 +1,4 @@
+pub mod Binders
+pub mod KindIndex
+pub mod Levels
+pub mod Laws

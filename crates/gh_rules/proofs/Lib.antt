@@ -1,0 +1,2 @@
+pub mod Alongside
+pub mod RowByRow

@@ -1,0 +1,4 @@
+pub mod Beside
+pub mod Laws
+pub mod RowByRow
+pub mod Rules

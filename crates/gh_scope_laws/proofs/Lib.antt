@@ -1,0 +1,9 @@
+pub mod OneOrder
+pub mod Ready
+pub mod Untaken
+pub mod AnOrder
+pub mod Entries
+pub mod Pigeons
+pub mod Onwards
+pub mod Imported
+pub mod AllTaken

@@ -1,0 +1,10 @@
+pub mod Keys
+pub mod Found
+pub mod Gives
+pub mod Graph
+pub mod Order
+pub mod Imports
+pub mod Exports
+pub mod Linking
+pub mod Tables
+pub mod Layers
