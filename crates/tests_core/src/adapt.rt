@@ -166,14 +166,19 @@ fn converts_lists(rt: HostRuntime) -> Result<(), Fail> {
     Ok(())
 }
 
+// A function that adds a mark to its text, converted at the base type of functions by a pair that adds one each way.
+fn converted_function(alloc: Global) -> Result<CoreTerm, NoMemory> {
+    let pairs = pairs(alloc, before(alloc, 'f')?, before(alloc, 'b')?)?;
+    let base = functions(alloc)?;
+    let conversion = conversion(alloc, &base, &pairs)?;
+    app(alloc, conversion, before(alloc, 'm')?)
+}
+
 // What a function is given is converted forth, and what it answers back.
 #[test]
 fn converts_functions(rt: HostRuntime) -> Result<(), Fail> {
     let a = rt.alloc();
-    let pairs = pairs(a, before(a, 'f')?, before(a, 'b')?)?;
-    let base = functions(a)?;
-    let made = app(a, conversion(a, &base, &pairs)?, before(a, 'm')?)?;
-    let main = app(a, made, text(a, &['z'])?)?;
+    let main = app(a, converted_function(a)?, text(a, &['z'])?)?;
     prints(&rt, a, main, b"bmfz")?;
     Ok(())
 }
