@@ -1,0 +1,9 @@
+pub mod Trees
+pub mod Holding
+pub mod Going
+pub mod Turns
+pub mod Places
+pub mod Ordering
+pub mod Grounding
+pub mod Failing
+pub mod Examples

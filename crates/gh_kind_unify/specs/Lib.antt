@@ -1,0 +1,5 @@
+pub mod Kinds
+pub mod Cells
+pub mod Settling
+pub mod Orders
+pub mod Faults
