@@ -1,0 +1,9 @@
+pub mod Above
+pub mod Codes
+pub mod Compiles
+pub mod Fits
+pub mod Flat
+pub mod Following
+pub mod Linear
+pub mod Lists
+pub mod Trees
