@@ -1,20 +1,20 @@
 -- Where no import lies on a cycle, the order has every file.
-use Rattle.std.proofs.Common.{◌≡◌, ℕ, suc, zero, ◌<◌, Bool, true, false, not, ◌&&◌, ◌||◌, ◌==◌, if◌then◌else◌, List, [], ◌∷◌, ◌++◌, length, map, Option, Some, None, is_some, slice_index_or, refl, sym, ap, subst, ◌∙◌, arith, append_assoc}
+use Rattle.std.proofs.Common.{◌≡◌, ℕ, ◌<◌, Bool, true, false, not, ◌&&◌, ◌==◌, if◌then◌else◌, List, [], ◌∷◌, ◌++◌, length, Option, Some, None, is_some, slice_index_or, refl, sym, ap, subst, ◌∙◌, arith, append_assoc}
 use Rattle.std.specs.List.{list_all, position}
 use Rattle.std.specs.Option.{option_or}
 use Rattle.std.proofs.lemmas.Bool.{eq-eqb, false≢true, or_left, or_right, true_from_ne_false}
 use Rattle.std.proofs.lemmas.List.{length-map}
 use Rattle.std.proofs.lemmas.List.Quantifiers.{position-Some}
-use Rattle.gh_base.specs.declared.refusal.Refusal.{Refusal}
 use Rattle.gh_scopes.specs.declared.types.Import.{Import}
 use Rattle.gh_scopes.specs.declared.types.Summary.{Summary}
-use Rattle.gh_scopes.specs.Graph.{before_scopes, first_double, first_cycle, first_some, unknown_in, cycle_at, cycle_by, back, shortest, has_file, imported_files, graph_of, file_of, is_named}
-use Rattle.gh_scopes.specs.Order.{taken, is_ready, order_of}
-use Rattle.gh_scope_laws.specs.Orders.{ready, Orders}
+use Rattle.gh_scopes.specs.Graph.{first_double, first_cycle, first_some, unknown_in, cycle_at, cycle_by, back, has_file, imported_files, graph_of, file_of}
+use Rattle.gh_scopes.specs.Order.{taken, order_of}
+use Rattle.gh_scope_laws.specs.Orders.{Orders}
 use Rattle.gh_scope_laws.specs.Complete.{HasAll}
 use Rattle.gh_scope_laws.proofs.AnOrder.{is_order}
 use Rattle.gh_scope_laws.proofs.Onwards.{Goes, Back, comes_back}
-use Rattle.gh_scope_laws.proofs.Imported.{Named, named, At, item_at, cycle_found}
+use Rattle.gh_scope_laws.proofs.Imported.{named, item_at, cycle_found}
+use Rattle.gh_scope_laws.proofs.Firsts.{none_both}
 
 abbrev first_open : List ℕ → List ℕ → ℕ → ℕ
 first_open done [] d = d
@@ -86,14 +86,14 @@ on_cycle ss done b go =
     (n.found (cycle_at ss g b.file)
     (some_cycle ss b.file n.import (back g b.file (file_of ss n.import.name)) (ap (λ o. is_some (back g b.file o)) n.file ∙ b.way)))
 
-second_none : {A : Type 0} (o p q : Option A) → option_or o (option_or p q) ≡ None → is_some p ≡ true → ⊥
-second_none None None q e s = false≢true s
-second_none None (Some x) q e s = false≢true (sym (ap is_some e))
-second_none (Some x) p q e s = false≢true (sym (ap is_some e))
-
-pub has_all : HasAll
-has_all ss none f lt = true_from_ne_false (taken (order_of (graph_of ss)) f) (λ never.
+-- where no import lies on a cycle, every file is in the order
+pub all_taken : (ss : List Summary) → first_cycle ss (graph_of ss) 0 ss ≡ None → (f : ℕ) → f < length ss → taken (order_of (graph_of ss)) f ≡ true
+all_taken ss none f lt = true_from_ne_false (taken (order_of (graph_of ss)) f) (λ never.
     let done = order_of (graph_of ss) in
     let go = goes_on ss done (ends (graph_of ss) [] done (is_order (graph_of ss))) in
-    second_none (first_double [] ss) (first_cycle ss (graph_of ss) 0 ss) (first_some (unknown_in ss) ss) none
-    (on_cycle ss done (comes_back (graph_of ss) (onwards (graph_of ss) done) (Left ss done) go f (lt, never)) go))
+    false≢true (sym (ap is_some none) ∙ on_cycle ss done (comes_back (graph_of ss) (onwards (graph_of ss) done) (Left ss done) go f (lt, never)) go))
+
+pub has_all : HasAll
+has_all ss none =
+    let rest = (none_both (first_double [] ss) (option_or (first_cycle ss (graph_of ss) 0 ss) (first_some (unknown_in ss) ss)) none).1 in
+    all_taken ss (none_both (first_cycle ss (graph_of ss) 0 ss) (first_some (unknown_in ss) ss) rest).0

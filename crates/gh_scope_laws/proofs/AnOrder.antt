@@ -1,6 +1,6 @@
 -- What linking takes is an order.
-use Rattle.std.proofs.Common.{◌≡◌, ℕ, suc, zero, ◌+◌, ◌<◌, ◌≤◌, List, [], ◌∷◌, ◌++◌, length, Option, Some, None, refl, sym, ap, subst, ◌∙◌, arith, append_assoc}
-use Rattle.gh_scopes.specs.Order.{first_ready, with_ready, taken_from, order_of}
+use Rattle.std.proofs.Common.{◌≡◌, ℕ, suc, zero, ◌≤◌, List, [], ◌∷◌, ◌++◌, length, Option, Some, None, refl, sym, ap, subst, ◌∙◌, arith, append_assoc}
+use Rattle.gh_scopes.specs.Order.{first_ready, with_ready, taken_from}
 use Rattle.gh_scope_laws.specs.Orders.{IsFirst, Orders, IsOrder}
 use Rattle.gh_scope_laws.proofs.Ready.{none_ready, first_found, not_taken}
 use Rattle.gh_scope_laws.proofs.Untaken.{untaken, most, fewer}

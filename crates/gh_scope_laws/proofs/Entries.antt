@@ -4,9 +4,8 @@ use Rattle.std.specs.List.{flat_map, list_any}
 use Rattle.std.proofs.lemmas.List.Folds.{list_any-append}
 use Rattle.std.proofs.lemmas.Bool.{false≢true, false_from_ne_true, or_parts}
 use Rattle.gh_scopes.specs.declared.types.ScopeEntry.{ScopeEntry}
-use Rattle.gh_scopes.specs.declared.types.Summary.{Summary}
 use Rattle.gh_scopes.specs.Keys.{Key, same_key, entry_key, same_entry}
-use Rattle.gh_scopes.specs.Found.{among, with_entry, with_entries, once}
+use Rattle.gh_scopes.specs.Found.{among, with_entry, with_entries}
 use Rattle.gh_scopes.specs.Imports.{own_given, import_gives, scope_of}
 use Rattle.gh_scopes.proofs.SameKeys.{keys_equal}
 use Rattle.gh_scope_laws.specs.Entries.{Apart, EachEntry, EachOnce}

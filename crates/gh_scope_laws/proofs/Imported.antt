@@ -1,7 +1,5 @@
 -- The files that a file imports are those of its imports.
 use Rattle.std.proofs.Common.{◌≡◌, ◌⊎◌, inl, inr, ℕ, suc, zero, ◌+◌, ◌<◌, Bool, true, false, cond, ◌||◌, ◌==◌, List, [], ◌∷◌, ◌++◌, length, map, Option, Some, None, is_some, unwrap_or, slice_get, slice_index_or, refl, sym, ap, ◌∙◌, arith}
-use Rattle.std.specs.List.{list_any}
-use Rattle.std.specs.Option.{option_or}
 use Rattle.std.proofs.lemmas.Bool.{or_cases, eqb-true, false≢true}
 use Rattle.std.proofs.lemmas.List.Folds.{list_any-append}
 use Rattle.gh_base.specs.declared.refusal.Refusal.{Refusal}
@@ -20,7 +18,7 @@ or_end : (b : Bool) → (b || false) ≡ b
 or_end true = refl
 or_end false = refl
 
-pushed : (fs : List ℕ) (y x : ℕ) → has_file (fs ++ y ∷ []) x ≡ true → (has_file fs x ≡ true) ⊎ (y ≡ x)
+pub pushed : (fs : List ℕ) (y x : ℕ) → has_file (fs ++ y ∷ []) x ≡ true → (has_file fs x ≡ true) ⊎ (y ≡ x)
 pushed fs y x e = by (or_cases (has_file fs x) ((y == x) || false) (sym (list_any-append (λ g. g == x) fs (y ∷ [])) ∙ e))
   where
     by : (has_file fs x ≡ true) ⊎ (((y == x) || false) ≡ true) → (has_file fs x ≡ true) ⊎ (y ≡ x)
@@ -69,7 +67,7 @@ item_at h [] k lt = absurd (omega (arith, lt))
 item_at h (x ∷ xs) zero lt = record { item = x; is = refl; mapped = refl }
 item_at h (x ∷ xs) (suc k) lt = let i = item_at h xs k (omega (arith, lt)) in record { item = i.item; is = i.is; mapped = i.mapped }
 
-some_same : {A : Type 0} (x y : A) → Some x ≡ Some y → x ≡ y
+pub some_same : {A : Type 0} (x y : A) → Some x ≡ Some y → x ≡ y
 some_same x y e = ap (λ o. unwrap_or o x) e
 
 pub cycle_found : (ss : List Summary) (g : List (List ℕ)) (all : List Summary) (f k m : ℕ) (s : Summary) → m ≡ f + k → slice_get all k ≡ Some s

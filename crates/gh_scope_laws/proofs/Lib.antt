@@ -6,4 +6,11 @@ pub mod Entries
 pub mod Pigeons
 pub mod Onwards
 pub mod Imported
+pub mod Firsts
 pub mod AllTaken
+pub mod Lookups
+pub mod Behind
+pub mod LinkOrders
+pub mod Agree
+pub mod Settled
+pub mod Answered

@@ -1,5 +1,5 @@
 -- What the search for the first ready file finds.
-use Rattle.std.proofs.Common.{◌≡◌, ℕ, suc, zero, ◌+◌, ◌<◌, Bool, true, false, ◌&&◌, not, if◌then◌else◌, List, [], ◌∷◌, length, Option, Some, None, is_some, unwrap_or, slice_index_or, refl, sym, ap, ◌∙◌, arith}
+use Rattle.std.proofs.Common.{◌≡◌, ℕ, suc, zero, ◌+◌, ◌<◌, Bool, true, false, not, if◌then◌else◌, List, [], ◌∷◌, length, Option, Some, None, is_some, unwrap_or, slice_index_or, refl, sym, ap, ◌∙◌, arith}
 use Rattle.std.proofs.lemmas.Bool.{false≢true, and_parts}
 use Rattle.gh_scopes.specs.Order.{first_ready, is_ready, taken}
 use Rattle.std.specs.List.{list_all}
@@ -60,7 +60,7 @@ first_found done g r e =
       first = λ h lt. i.first h h (omega arith) (omega arith);
     }
 
-no_more : (b : Bool) → not b ≡ true → b ≡ false
+pub no_more : (b : Bool) → not b ≡ true → b ≡ false
 no_more true e = absurd (false≢true e)
 no_more false e = refl
 

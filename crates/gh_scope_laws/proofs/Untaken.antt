@@ -1,7 +1,6 @@
 -- How many files are still to be taken.
-use Rattle.std.proofs.Common.{◌≡◌, ◌⊎◌, inl, inr, ℕ, suc, zero, ◌+◌, ◌<◌, ◌≤◌, Bool, true, false, ◌||◌, ◌==◌, if◌then◌else◌, List, [], ◌∷◌, ◌++◌, refl, sym, ap, ◌∙◌, arith}
-use Rattle.std.specs.List.{list_any}
-use Rattle.std.proofs.lemmas.Bool.{cases_eq, eq-eqb, ne_eqb, or_right}
+use Rattle.std.proofs.Common.{◌≡◌, ◌⊎◌, inl, inr, ℕ, suc, zero, ◌+◌, ◌<◌, ◌≤◌, Bool, true, false, ◌||◌, ◌==◌, List, [], ◌∷◌, ◌++◌, refl, sym, ap, ◌∙◌, arith}
+use Rattle.std.proofs.lemmas.Bool.{cases_eq, eq-eqb, ne_eqb}
 use Rattle.std.proofs.lemmas.List.Folds.{list_any-append}
 use Rattle.gh_scopes.specs.Order.{taken}
 
@@ -32,7 +31,7 @@ or_one : (b : Bool) → (b || (true || false)) ≡ true
 or_one true = refl
 or_one false = refl
 
-other : (done : List ℕ) (f h : ℕ) → (f ≡ h → ⊥) → taken (done ++ f ∷ []) h ≡ taken done h
+pub other : (done : List ℕ) (f h : ℕ) → (f ≡ h → ⊥) → taken (done ++ f ∷ []) h ≡ taken done h
 other done f h ne = taken_push done f h ∙ ap (λ b. taken done h || (b || false)) (ne_eqb f h ne) ∙ or_none (taken done h)
 
 itself : (done : List ℕ) (f h : ℕ) → f ≡ h → taken (done ++ f ∷ []) h ≡ true

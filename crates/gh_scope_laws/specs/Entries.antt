@@ -1,5 +1,5 @@
 -- The entries of a scope.
-use Rattle.std.specs.Prelude.{◌≡◌, Bool, true, false, ◌||◌, List, [], ◌∷◌}
+use Rattle.std.specs.Prelude.{◌≡◌, false, ◌||◌, List, [], ◌∷◌}
 use Rattle.std.specs.List.{flat_map}
 use Rattle.gh_scopes.specs.declared.types.ScopeEntry.{ScopeEntry}
 use Rattle.gh_scopes.specs.declared.types.Summary.{Summary}

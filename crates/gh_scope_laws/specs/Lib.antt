@@ -1,3 +1,5 @@
 pub mod Orders
 pub mod Complete
 pub mod Entries
+pub mod LinkOrders
+pub mod Scopes

@@ -3,4 +3,4 @@
 
 mod laws;
 
-pub use laws::{entries_once, every_file, one_order};
+pub use laws::{entries_once, every_file, link_order, one_order, scopes_of_exports};

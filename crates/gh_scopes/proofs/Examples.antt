@@ -88,6 +88,16 @@ hides_in_two_spaces : linked_of (prelude ∷ a_module 1 (type_named 7 ∷ con 7 
 unfolding linked_of with_file scope_of imports_fault exports_of with_item entry_key use_key serves origin_key type_key walk
 hides_in_two_spaces = refl
 
+-- what is hidden of one import comes in by another: module 2 exports the value 7 of module 1 too
+hides_for_one_import : linked_of (prelude ∷ a_module 1 (value 7 ∷ value 8 ∷ []) [] None
+    ∷ a_module 2 [] (imports 1 false 1 selection.Whole ∷ []) (Some (var_item (used 1 7) ∷ []))
+    ∷ a_module 3 [] (imports 1 false 1 (selection.Hiding (var_item (used 5 7) ∷ [])) ∷ imports 2 false 2 selection.Whole ∷ []) (Some []) ∷ [])
+    ≡ linked (0 ∷ 1 ∷ 2 ∷ 3 ∷ []) (scope [] ∷ scope (val None 7 1 ∷ val (Some 1) 7 1 ∷ val None 8 1 ∷ val (Some 1) 8 1 ∷ [])
+    ∷ scope (val None 7 1 ∷ val (Some 1) 7 1 ∷ val None 8 1 ∷ val (Some 1) 8 1 ∷ [])
+    ∷ scope (val None 8 1 ∷ val (Some 1) 8 1 ∷ val None 7 1 ∷ val (Some 2) 7 1 ∷ []) ∷ [])
+unfolding linked_of with_file scope_of imports_fault exports_of with_item entry_key use_key serves origin_key type_key walk
+hides_for_one_import = refl
+
 -- `T(..)` exports a constructor that is in scope under a qualifier alone
 takes_constructors_of_any_qualifier : linked_of (prelude ∷ a_module 1 (type_named 7 ∷ con 7 8 ∷ []) [] None
     ∷ a_module 2 [] (imports 1 false 1 (selection.Only (type_item (used 5 7) parts.Bare ∷ [])) ∷ imports 1 true 3 (selection.Only (type_item (used 6 7) (parts.Listed (used 6 8 ∷ [])) ∷ [])) ∷ [])
@@ -115,6 +125,12 @@ one_origin_twice : linked_of (prelude ∷ a_module 1 (value 7 ∷ []) [] (Some (
     ≡ linked (0 ∷ 1 ∷ 2 ∷ []) (scope [] ∷ scope (val None 7 1 ∷ val (Some 1) 7 1 ∷ []) ∷ scope (val (Some 1) 7 1 ∷ []) ∷ [])
 unfolding linked_of with_file scope_of imports_fault exports_of with_item entry_key use_key serves origin_key type_key walk
 one_origin_twice = refl
+
+-- the implied header: the module Main exports `main` and nothing else
+exports_main : linked_of (prelude ∷ a_module 48 (value 49 ∷ value 7 ∷ []) [] (Some (var_item (used 0 49) ∷ [])) ∷ a_module 2 [] (imports 48 true 48 selection.Whole ∷ []) (Some []) ∷ [])
+    ≡ linked (0 ∷ 1 ∷ 2 ∷ []) (scope [] ∷ scope (val None 49 48 ∷ val (Some 48) 49 48 ∷ val None 7 48 ∷ val (Some 48) 7 48 ∷ []) ∷ scope (val (Some 48) 49 48 ∷ []) ∷ [])
+unfolding linked_of with_file scope_of imports_fault exports_of with_item entry_key use_key serves origin_key type_key walk
+exports_main = refl
 
 -- a file that exports a name that it does not have
 nothing_of_that_name : linked_of (prelude ∷ a_module 48 [] [] (Some (var_item (used 0 49) ∷ [])) ∷ []) ≡ Err (refusal.UnknownName (at 0) (name 49))

@@ -55,6 +55,10 @@ origin_key o = (0, (0, (o.«module».0, (space_number o.space, o.name.0))))
 unfoldable pub type_key : NameId → NameId → Key
 type_key m t = (0, (0, (m.0, (1, t.0))))
 
+-- a qualifier is told by its name
+unfoldable pub qualifier_key : NameId → Key
+qualifier_key q = (0, (q.0, (0, (0, 0))))
+
 abbrev pub same_entry : ScopeEntry → ScopeEntry → Bool
 same_entry a b = same_key (entry_key a) (entry_key b)
 

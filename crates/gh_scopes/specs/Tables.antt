@@ -8,9 +8,10 @@ use Rattle.gh_base.specs.declared.names.NameId.{NameId}
 use Rattle.gh_base.specs.declared.place.Origin.{Origin}
 use Rattle.gh_scopes.specs.declared.types.ScopeEntry.{ScopeEntry}
 use Rattle.gh_scopes.specs.declared.types.Summary.{Summary}
-use Rattle.gh_scopes.specs.Keys.{Key, same_key, entry_key, origin_key}
+use Rattle.gh_scopes.specs.Keys.{Key, same_key, entry_key, origin_key, qualifier_key}
 use Rattle.gh_scopes.specs.Found.{Found, among, found, has}
 use Rattle.gh_scopes.specs.Imports.{constructors, is_one_of}
+use Rattle.gh_scopes.specs.Exports.{is_qualifier, module_origins}
 
 abbrev pub KeySet : Type 0
 KeySet = HashSet Key (BuildHasherDefault FoldHasher)
@@ -34,3 +35,11 @@ IsNames table es = (k : Key) → get same_key table k ≡ found es k
 -- the table has the constructors of each type
 abbrev pub IsOwners : HashMap Key (List NameId) (BuildHasherDefault FoldHasher) → List Summary → Type 0
 IsOwners table ss = (k : Key) → unwrap_or (get same_key table k) [] ≡ constructors ss k
+
+-- the table has what `module` exports with each qualifier
+abbrev pub IsByQualifier : HashMap Key (List Origin) (BuildHasherDefault FoldHasher) → List ScopeEntry → Type 0
+IsByQualifier table es = (q : NameId) → unwrap_or (get same_key table (qualifier_key q)) [] ≡ module_origins es q
+
+-- the set has the names that `module` may stand before
+abbrev pub IsQualifiers : KeySet → Summary → Type 0
+IsQualifiers set s = (q : NameId) → contains same_key set (qualifier_key q) ≡ is_qualifier s q

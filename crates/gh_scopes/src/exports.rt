@@ -1,17 +1,18 @@
 // What a module exports.
 ghost use Rattle.std.specs.Prelude.{◌≡◌, ◌++◌, [], IfOk, OnOk};
-ghost use Rattle.std.specs.List.{list_any};
 ghost use Rattle.gh_scopes.specs.Found.{found_use};
 ghost use Rattle.gh_scopes.specs.Exports as spec;
 
+use crate::by_qualifier::ByQualifier;
 use crate::given::Given;
-use crate::keys::{entry, entry_key, same_key, same_origin};
+use crate::keys::{entry, same_origin};
 use crate::once::{Once, own_alone};
 use crate::owners::Owners;
-use crate::picked::{add_type, first_bad, keep, put_some};
+use crate::picked::{add_type, first_bad, put_some};
+use crate::qualifiers::Qualifiers;
 use crate::table::{Table, origin_of, table_of, with_all};
 use crate::tables::Found;
-use crate::types::{Import, Listed, ListedKind, ScopeEntry, Summary, Used};
+use crate::types::{Listed, ListedKind, Summary, Used};
 use gh_base::{ListOf, NameId, NoMemory, Origin, Refusal, Space};
 use std::alloc::Global;
 
@@ -42,18 +43,6 @@ fn use_fault(name: Used, found: Option<Found>) -> Option<Refusal>
     }
 }
 
-fn has_qualifier(imports: &[Import], name: NameId) -> bool
-    ensures { result ≡ list_any (spec.has_qualifier name) imports.now }
-{
-    imports.iter().any(|import| import.qualifier.0 == name.0)
-}
-
-fn is_qualifier(summary: &Summary, name: NameId) -> bool
-    ensures { result ≡ spec.is_qualifier summary.now name }
-{
-    summary.name.0 == name.0 || has_qualifier(summary.imports.as_slice(), name)
-}
-
 fn module_fault(is_there: bool, name: Used) -> Option<Refusal>
     ensures { result ≡ spec.module_fault is_there name }
 {
@@ -67,45 +56,27 @@ fn looked(table: &Table, space: Space, name: Used) -> Option<Found>
     table.find(name.qualifier, space, name.name)
 }
 
-fn head_fault(summary: &Summary, table: &Table, listed: &Listed) -> Option<Refusal>
-    ensures { result ≡ spec.head_fault summary.now table.now listed.now }
+fn head_fault(qualifiers: &Qualifiers, table: &Table, listed: &Listed) -> Option<Refusal>
+    ensures { result ≡ spec.head_fault qualifiers.now.summary.now table.now listed.now }
 {
     let name = listed.name;
     match listed.kind {
         ListedKind::Value => use_fault(name, looked(table, Space::Values, name)),
         ListedKind::Type => use_fault(name, looked(table, Space::Types, name)),
-        ListedKind::Module => module_fault(is_qualifier(summary, name.name), name),
+        ListedKind::Module => module_fault(qualifiers.has(name.name), name),
     }
-}
-
-fn is_exported_by(once: &Once, qualifier: NameId, one: ScopeEntry) -> bool
-    ensures { result ≡ spec.is_exported_by once.now qualifier one }
-{
-    let qualified = entry(Some(qualifier), one.origin);
-    same_key(entry_key(one), entry_key(qualified)) && once.has(entry(None, one.origin))
-}
-
-#[tactic(auto, using(std::proofs::lemmas::List::flat_map_more))]
-fn add_module(list: &mut ListOf<Origin>, once: &Once, qualifier: NameId) -> Result<(), NoMemory>
-    ensures { OnOk result (list.new ≡ list.old ++ spec.module_origins once.now qualifier) }
-{
-    let entries = once.as_slice();
-    for one in entries {
-        keep(list, is_exported_by(once, qualifier, *one), one.origin)?;
-    }
-    Ok(())
 }
 
 // What a part of an export list names.
 fn named(
     alloc: Global,
     owners: &Owners,
-    once: &Once,
+    modules: &ByQualifier,
     table: &Table,
     listed: &Listed,
 ) -> Result<ListOf<Origin>, NoMemory>
-    requires { table.now ≡ once.now }
-    ensures { IfOk result (λ list. list ≡ spec.named owners.now.summaries.now once.now listed.now) }
+    requires { table.now ≡ modules.now.once.now }
+    ensures { IfOk result (λ list. list ≡ spec.named owners.now.summaries.now modules.now.once.now listed.now) }
 {
     let mut list = ListOf::new(alloc);
     let name = listed.name;
@@ -120,7 +91,7 @@ fn named(
             Ok(list)
         }
         ListedKind::Module => {
-            add_module(&mut list, once, name.name)?;
+            list.extend_from_slice(modules.origins(name.name))?;
             Ok(list)
         }
     }
@@ -232,19 +203,19 @@ fn after_names(
 fn with_item(
     alloc: Global,
     owners: &Owners,
-    summary: &Summary,
-    once: &Once,
+    qualifiers: &Qualifiers,
+    modules: &ByQualifier,
     table: &Table,
     exported: Table,
     listed: &Listed,
 ) -> Result<Given, NoMemory>
-    requires { table.now ≡ once.now }
-    ensures { IfOk result (λ g. g ≡ spec.with_item owners.now.summaries.now summary.now once.now exported listed.now) }
+    requires { table.now ≡ modules.now.once.now }
+    ensures { IfOk result (λ g. g ≡ spec.with_item owners.now.summaries.now qualifiers.now.summary.now modules.now.once.now exported listed.now) }
 {
-    match head_fault(summary, table, listed) {
+    match head_fault(qualifiers, table, listed) {
         Some(refusal) => Ok(no_more(exported, refusal)),
         None => {
-            let origins = named(alloc, owners, once, table, listed)?;
+            let origins = named(alloc, owners, modules, table, listed)?;
             let new = added(alloc, &exported, origins.as_slice())?;
             after_names(owners, table, exported, listed, new)
         }
@@ -263,37 +234,37 @@ fn and_fault(fault: Option<Refusal>, given: Given) -> Given
 fn with_next(
     alloc: Global,
     owners: &Owners,
-    summary: &Summary,
-    once: &Once,
+    qualifiers: &Qualifiers,
+    modules: &ByQualifier,
     table: &Table,
     given: Given,
     listed: &Listed,
 ) -> Result<Given, NoMemory>
-    requires { table.now ≡ once.now }
-    ensures { IfOk result (λ g. g ≡ spec.with_next owners.now.summaries.now summary.now once.now given listed.now) }
+    requires { table.now ≡ modules.now.once.now }
+    ensures { IfOk result (λ g. g ≡ spec.with_next owners.now.summaries.now qualifiers.now.summary.now modules.now.once.now given listed.now) }
 {
     let Given { entries, fault } = given;
-    let next = with_item(alloc, owners, summary, once, table, entries, listed)?;
+    let next = with_item(alloc, owners, qualifiers, modules, table, entries, listed)?;
     Ok(and_fault(fault, next))
 }
 
 fn with_items(
     alloc: Global,
     owners: &Owners,
-    summary: &Summary,
-    once: &Once,
+    qualifiers: &Qualifiers,
+    modules: &ByQualifier,
     table: &Table,
     listed: &[Listed],
 ) -> Result<Given, NoMemory>
-    requires { table.now ≡ once.now }
-    ensures { IfOk result (λ g. g ≡ spec.with_items owners.now.summaries.now summary.now once.now spec.nothing listed.now) }
+    requires { table.now ≡ modules.now.once.now }
+    ensures { IfOk result (λ g. g ≡ spec.with_items owners.now.summaries.now qualifiers.now.summary.now modules.now.once.now spec.nothing listed.now) }
 {
     let mut given = Given {
         entries: Table::new(alloc),
         fault: None,
     };
     for one in listed {
-        given = with_next(alloc, owners, summary, once, table, given, one)?;
+        given = with_next(alloc, owners, qualifiers, modules, table, given, one)?;
     }
     Ok(given)
 }
@@ -308,7 +279,9 @@ fn of_list(
     ensures { IfOk result (λ g. g ≡ spec.with_items owners.now.summaries.now summary.now once.now spec.nothing listed.now) }
 {
     let table = table_of(alloc, once.as_slice())?;
-    with_items(alloc, owners, summary, once, &table, listed)
+    let modules = ByQualifier::new(alloc, once)?;
+    let qualifiers = Qualifiers::new(alloc, summary)?;
+    with_items(alloc, owners, &qualifiers, &modules, &table, listed)
 }
 
 fn of_own(alloc: Global, summary: &Summary) -> Result<Given, NoMemory>

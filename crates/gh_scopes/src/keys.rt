@@ -95,6 +95,14 @@ pub fn type_key(home: NameId, name: NameId) -> Key
     (0, (0, (home.0, (1, name.0))))
 }
 
+/// The key of a qualifier.
+#[tactic(auto, unfolding(crate::specs::Keys::qualifier_key))]
+pub fn qualifier_key(name: NameId) -> Key
+    ensures { result ≡ spec.qualifier_key name }
+{
+    (0, (name.0, (0, (0, 0))))
+}
+
 fn same_three(a: (u32, (u32, u32)), b: (u32, (u32, u32))) -> bool
     ensures { result ≡ spec.same_three a b }
 {

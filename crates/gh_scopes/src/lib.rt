@@ -2,17 +2,20 @@
 #![tactic(auto)]
 
 mod by_file;
+mod by_qualifier;
 mod exports;
 mod given;
 mod graph;
 mod imports;
 mod keys;
 mod linking;
+mod lists_by_key;
 mod once;
 mod order;
 mod owners;
 mod picked;
 mod progress;
+mod qualifiers;
 mod sets;
 mod table;
 mod tables;

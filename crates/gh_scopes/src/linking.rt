@@ -190,8 +190,9 @@ fn link_all(alloc: Global, summaries: &[Summary], graph: &[ListOf<usize>]) -> Re
 /// its module does not export; a name of an export list that is unknown or ambiguous, or with which an exported name has
 /// two origins. The only other answer is that there is no memory.
 ///
-/// Names are looked up in tables, so time is linear in the entries of all scopes, but for what asks which file is
-/// meant, which looks at each file.
+/// Names are looked up in tables, so time is linear in what definitions, imports and parts of export lists give, each
+/// counted as often as it stands there, but for what asks which file is meant, which looks at each file. An import with
+/// a list goes over the exports of its module.
 #[tactic(auto, unfolding(crate::specs::Linking::linked_of))]
 pub fn link_summaries(alloc: Global, summaries: &[Summary]) -> Result<Linked, Fault>
     ensures { Gives (spec.linked_of summaries.now) result }

@@ -1,5 +1,5 @@
 // The constructors of types.
-ghost use Rattle.std.specs.Prelude.{◌≡◌, ◌++◌, ◌∷◌, [], cond, map, unwrap_or, None, OnOk, IfOk};
+ghost use Rattle.std.specs.Prelude.{◌≡◌, ◌++◌, [], map, unwrap_or, OnOk, IfOk};
 ghost use Rattle.std.specs.HashMap.{get};
 ghost use Rattle.std.specs.List.{flat_map};
 ghost use Rattle.gh_scopes.specs.Keys.{Key, same_key, type_key};
@@ -7,34 +7,11 @@ ghost use Rattle.gh_scopes.specs.Imports as spec;
 ghost use Rattle.gh_scopes.specs.Tables.{IsOwners};
 
 use crate::keys::{Key, same_origin, type_key};
+use crate::lists_by_key::put_at;
 use crate::types::{Definition, Summary};
 use gh_base::{ListOf, NameId, NoMemory, Origin, Space};
 use std::alloc::Global;
 use std::collections::HashMap;
-
-fn taken_out(alloc: Global, table: &mut HashMap<Key, ListOf<NameId>>, key: Key) -> ListOf<NameId>
-    ensures list { result ≡ unwrap_or (get same_key table.old key) [] }
-    ensures others { (k : Key) → get same_key table.new k ≡ cond (same_key key k) None (get same_key table.old k) }
-{
-    match table.remove(&key) {
-        Some(list) => list,
-        None => ListOf::new(alloc),
-    }
-}
-
-fn put_owned(
-    alloc: Global,
-    table: &mut HashMap<Key, ListOf<NameId>>,
-    key: Key,
-    name: NameId,
-) -> Result<(), NoMemory>
-    ensures { OnOk result ((k : Key) → unwrap_or (get same_key table.new k) [] ≡ unwrap_or (get same_key table.old k) [] ++ cond (same_key key k) (name ∷ []) []) }
-{
-    let mut list = taken_out(alloc, table, key);
-    list.push(name)?;
-    table.insert(key, list)?;
-    Ok(())
-}
 
 fn own_definition(
     alloc: Global,
@@ -47,7 +24,7 @@ fn own_definition(
     match definition.owner {
         None => Ok(()),
         Some(owner) => {
-            put_owned(alloc, table, type_key(home, owner), definition.name)?;
+            put_at(alloc, table, type_key(home, owner), definition.name)?;
             Ok(())
         }
     }

@@ -15,8 +15,8 @@ use gh_base::{ListOf, NoMemory, Origin, Refusal, Space};
 use std::alloc::Global;
 use std::collections::HashSet;
 
-/// One more, if it is kept.
-pub fn keep(list: &mut ListOf<Origin>, is_kept: bool, origin: Origin) -> Result<(), NoMemory>
+// One more, if it is kept.
+fn keep(list: &mut ListOf<Origin>, is_kept: bool, origin: Origin) -> Result<(), NoMemory>
     ensures { OnOk result (list.new ≡ list.old ++ spec.kept is_kept origin) }
 {
     if is_kept {
