@@ -1,2 +1,3 @@
 pub mod PatternsAt
 pub mod DeclAt
+pub mod Examples

@@ -36,7 +36,7 @@ fn summaries_of(alloc: Global, trees: &[ModuleTree]) -> Result<ListOf<Summary>, 
 /// of the files, a name of an export list that is unknown (`UnknownName`), or that is ambiguous or gives an exported name
 /// a second origin (`AmbiguousName`). The only other answer is that there is no memory, which is also that of more than
 /// 2^32 files. Names are known by their numbers alone, so the table of names is not read. Time is linear in the trees and
-/// in the entries of the scopes.
+/// in what definitions, imports and export parts give, each counted as often as it stands there.
 pub fn link(alloc: Global, _names: &Names, trees: &ListOf<ModuleTree>) -> Result<Linked, Fault>
     ensures { Gives (linked_of (summaries_of trees.now)) result }
 {
