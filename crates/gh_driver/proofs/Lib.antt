@@ -1,17 +1,1 @@
-pub mod Accepted
-pub mod Appended
-pub mod Cycles
-pub mod Fronts
-pub mod Keeping
-pub mod LimitsNamed
-pub mod Links
-pub mod Plain
-pub mod Prefixes
-pub mod Rooms
-pub mod Runs
-pub mod Scoping
-pub mod Splits
-pub mod Starts
-pub mod Texts
 pub mod Tops
-pub mod WordExamples

@@ -6,17 +6,17 @@ use Rattle.gh_driver.specs.declared.status.Status.{Status}
 use Rattle.gh_driver.specs.declared.status.Status.TheVariants as status
 use Rattle.gh_bindings.specs.declared.binding.Binding.{Binding}
 use Rattle.gh_core.specs.Reduce as Run
-use Rattle.gh_driver.specs.Core.{core_seen}
-use Rattle.gh_driver.specs.Lines.{Table, write_line, memory_line}
-use Rattle.gh_driver.specs.declared.source.Source.{Source}
+use Rattle.gh_run.specs.Core.{core_seen}
+use Rattle.gh_lines.specs.Lines.{Table, write_line, memory_line}
+use Rattle.gh_lines.specs.declared.source.Source.{Source}
 use Rattle.gh_driver.specs.declared.top.Mode.{Mode}
-use Rattle.gh_driver.specs.Check.{checked_of}
-use Rattle.gh_driver.specs.declared.check.Checked.{Checked}
-use Rattle.gh_driver.specs.declared.check.Checked.TheVariants as checked
+use Rattle.gh_check.specs.Check.{checked_of}
+use Rattle.gh_check.specs.declared.phases.Checked.{Checked}
+use Rattle.gh_check.specs.declared.phases.Checked.TheVariants as checked
 use Rattle.gh_driver.specs.declared.top.Mode.TheVariants as mode
 use Rattle.gh_driver.specs.Top.{StatusNamed, IsUnrefused, Answer, Answers, Outputs, Tried, TurnSaid, ran_to, ran, done, file_of, refused_by, checked_answer, answer_of, Gives, Kept, Shelves, IsQuiet, IsFile, NoRoom, Does, Task, Asked, Told, IsComplete}
-use Rattle.gh_driver.proofs.Appended.{whole_front, appends_none}
-use Rattle.gh_driver.proofs.Keeping.{core_keeps_meaning}
+use Rattle.gh_run.proofs.Appended.{whole_front, appends_none}
+use Rattle.gh_run.proofs.Keeping.{core_keeps_meaning}
 
 -- an answer that is known by an equation
 at_answer : (a b : Answer) (s : Status) (o : Outputs) → a ≡ b → Answers b s o → Answers a s o

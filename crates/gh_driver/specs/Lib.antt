@@ -1,12 +1,2 @@
-pub mod Accepted
-pub mod Check
 pub mod Codes
-pub mod Core
-pub mod Cycles
-pub mod Keeping
-pub mod Lines
-pub mod Position
-pub mod Scope
-pub mod Scoping
 pub mod Top
-pub mod Words

@@ -2,22 +2,22 @@
 use Rattle.std.specs.Prelude.{◌≡◌, ◌≢◌, ◌≤◌, ℕ, Bool, IsTrue, List, [], ◌∷◌, take, Option, Some, None, ◌⊎◌}
 use Rattle.gh_base.specs.declared.Refusal.{Refusal}
 use Rattle.gh_outside.specs.Outside.{Rose, Reads, Appends, AppendsFront, Asks}
-use Rattle.gh_driver.specs.declared.check.Checked.{Checked}
-use Rattle.gh_driver.specs.declared.check.Checked.TheVariants as checked
+use Rattle.gh_check.specs.declared.phases.Checked.{Checked}
+use Rattle.gh_check.specs.declared.phases.Checked.TheVariants as checked
 use Rattle.gh_bindings.specs.declared.binding.Binding.{Binding}
 use Rattle.gh_core.specs.Reduce as Run
 use Rattle.gh_driver.specs.declared.top.Mode.{Mode}
 use Rattle.gh_driver.specs.declared.top.Mode.TheVariants as mode
-use Rattle.gh_driver.specs.declared.source.Source.{Source}
+use Rattle.gh_lines.specs.declared.source.Source.{Source}
 use Rattle.gh_driver.specs.declared.status.Status.{Status}
 use Rattle.gh_driver.specs.declared.status.Status.TheVariants as status
-use Rattle.gh_driver.specs.declared.words.Words.{Words}
-use Rattle.gh_driver.specs.declared.words.Words.TheVariants as meaning
-use Rattle.gh_driver.specs.Words.{meaning_of, built_of}
-use Rattle.gh_driver.specs.Lines.{Table, IsNamed, refusal_line_of, usage_line, steps_line, write_line, memory_line, read_line_of, stopped_line_of}
-use Rattle.gh_driver.specs.Check.{checked_of}
-use Rattle.gh_driver.specs.Core.{core_seen, stop_of}
-use Rattle.gh_driver.specs.Keeping.{KeepsMeaning}
+use Rattle.gh_words.specs.declared.words.Words.{Words}
+use Rattle.gh_words.specs.declared.words.Words.TheVariants as meaning
+use Rattle.gh_words.specs.Words.{meaning_of, built_of}
+use Rattle.gh_lines.specs.Lines.{Table, IsNamed, refusal_line_of, usage_line, steps_line, write_line, memory_line, read_line_of, stopped_line_of}
+use Rattle.gh_check.specs.Check.{checked_of}
+use Rattle.gh_run.specs.Core.{core_seen, stop_of}
+use Rattle.gh_run.specs.Keeping.{KeepsMeaning}
 
 -- the outputs before and after, with their counts of faults
 pub record Outputs : Type 0 where

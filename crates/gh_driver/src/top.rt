@@ -3,21 +3,20 @@ ghost use Rattle.std.specs.Prelude.{◌≡◌, ◌≢◌, ◌++◌, ◌∷◌, [
 ghost use Rattle.gh_base.specs.Fixed.{fixed_texts};
 ghost use Rattle.gh_base.specs.Table.{IsGrown};
 ghost use Rattle.gh_outside.specs.Outside.{Appends, Asks};
-ghost use Rattle.gh_driver.specs.Lines.{IsNamed, IsRoom, steps_line, usage_line, write_line, memory_line};
+ghost use Rattle.gh_lines.specs.Lines.{IsNamed, IsRoom, steps_line, usage_line, write_line, memory_line};
 ghost use Rattle.gh_machine.specs.Values.{status_of};
-ghost use Rattle.gh_driver.specs.Check.{checked_of};
+ghost use Rattle.gh_check.specs.Check.{checked_of};
 ghost use Rattle.gh_driver.specs.Top.{Outputs, Shelves, Answers, Tried, LineFailed, TurnSaid, misused, unread, refused_by, ran, accepted, done, file_of, answer_of, task_of, Asked, Told, IsComplete, NoRoom, Does, ReadsOnly, StatusNamed, IsUnrefused};
 
-use crate::check::{Checked, check};
-use crate::lines::{line_room, read_line, refusal_line, stopped_line};
-use crate::run::{RunFault, run_main};
-use crate::source::Source;
 use crate::status::Status;
-use crate::words::{Words, WordsFault, read_words};
 use gh_base::{Bytes, ListOf, Names, NoMemory, Refusal};
+use gh_check::{Checked, check};
+use gh_lines::{Source, line_room, read_line, refusal_line, stopped_line};
 use gh_machine::Turn;
 use gh_outside::{Out, OutFault, Shelf, ShelfFault};
+use gh_run::{RunFault, run_main};
 use gh_tree_form::Bindings;
+use gh_words::{Words, WordsFault, read_words};
 use std::alloc::Global;
 
 const USAGE: &[u8] = b"usage: genhs check FILES, core FILES, run [--steps N] FILES, or sample N\n";
@@ -33,7 +32,7 @@ fn try_line<E: Out>(err: &mut E, text: &[u8])
 }
 
 // Says that there is not enough memory, as far as that can be said.
-#[tactic(auto, unfolding(crate::specs::Lines::memory_line))]
+#[tactic(auto, unfolding(gh_lines::specs::Lines::memory_line))]
 fn out_of_memory<E: Out>(err: &mut E) -> Status
     ensures status { result ≡ Status.NoMemory }
     ensures tried { Tried memory_line (E.written err.old) (E.written err.new) (E.faults err.old) (E.faults err.new) }
@@ -43,7 +42,7 @@ fn out_of_memory<E: Out>(err: &mut E) -> Status
 }
 
 // Says that an output could not be written, as far as that can be said.
-#[tactic(auto, unfolding(crate::specs::Lines::write_line))]
+#[tactic(auto, unfolding(gh_lines::specs::Lines::write_line))]
 fn cannot_write<E: Out>(err: &mut E)
     ensures { Tried write_line (E.written err.old) (E.written err.new) (E.faults err.old) (E.faults err.new) }
 {
@@ -74,7 +73,7 @@ pub enum Mode {
 }
 
 // Says that the run goes on.
-#[tactic(auto, unfolding(crate::specs::Lines::steps_line))]
+#[tactic(auto, unfolding(gh_lines::specs::Lines::steps_line))]
 fn out_of_steps<E: Out>(err: &mut E) -> Result<(), OutFault>
     ensures ok { OnOk result (Appends (E.written err.old) steps_line (E.written err.new)) }
     ensures failed { OnErr result (LineFailed steps_line (E.written err.old) (E.written err.new) (E.faults err.old) (E.faults err.new)) }
@@ -322,7 +321,7 @@ fn do_file<S: Shelf, O: Out, E: Out>(
 }
 
 // Answers the words.
-#[tactic(auto, unfolding(crate::specs::Lines::usage_line), using(gh_base::specs::Table::grown_same, crate::proofs::Tops::nothing_added, crate::proofs::Tops::no_front, crate::proofs::Tops::memory_named))]
+#[tactic(auto, unfolding(gh_lines::specs::Lines::usage_line), using(gh_base::specs::Table::grown_same, crate::proofs::Tops::nothing_added, crate::proofs::Tops::no_front, crate::proofs::Tops::memory_named))]
 fn answer<S: Shelf, O: Out, E: Out>(
     alloc: Global,
     names: &mut Names,

@@ -1,6 +1,6 @@
 use Rattle.std.proofs.Common.{rules, refl}
 use Rattle.gh_machine.specs.Values.{status_of}
-use Rattle.gh_driver.proofs.Appended.{front_nothing}
+use Rattle.gh_run.proofs.Appended.{front_nothing}
 use Rattle.gh_driver.proofs.Tops.{ran_said, ran_unwritten, ran_out_of_memory}
 use Rattle.gh_driver.proofs.top.run_program.Goals as goal
 

@@ -1,0 +1,4 @@
+pub mod Accepted
+pub mod Check
+pub mod Scope
+pub mod Scoping

@@ -1,5 +1,0 @@
-use Rattle.gh_driver.proofs.Keeping.{core_keeps_meaning}
-use Rattle.gh_driver.proofs.laws.core_keeps_meaning.Goals as goal
-
-pub returns : goal.returns
-returns c = core_keeps_meaning

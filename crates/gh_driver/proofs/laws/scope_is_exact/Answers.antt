@@ -1,5 +1,0 @@
-use Rattle.gh_driver.proofs.Scoping.{scope_is_exact}
-use Rattle.gh_driver.proofs.laws.scope_is_exact.Goals as goal
-
-pub returns : goal.returns
-returns c = scope_is_exact

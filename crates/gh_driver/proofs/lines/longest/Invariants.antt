@@ -1,6 +1,0 @@
-use Rattle.std.proofs.Common.{◌≡◌, max, drop}
-use Rattle.gh_driver.specs.Lines.{longest_name}
-use Rattle.gh_driver.proofs.lines.longest.Given as goal
-
-abbrev pub invariant-loop-source : goal.invariant-loop-source
-invariant-loop-source l = max l.most (longest_name (drop l.source-index l.files)) ≡ longest_name l.files
