@@ -16,7 +16,7 @@ use Rattle.gh_kernel.specs.Terms.{Pat, pvar, pwild, pcon, plit, pstring, pas, Pa
 use Rattle.gh_kernel.specs.Terms as terms
 use Rattle.gh_rules.specs.Beside.{sources, in_source, SameBodies, SameRows, nothing_bound, one_bound, SameRest, SameTrial, Beside, at_row, at_fall, at_guard, at_body}
 use Rattle.gh_rules.specs.Laws.{Begins, Moves, Takes, Tells, Asks, Enters, Decides}
-use Rattle.gh_rules.specs.Rules.{Argument, built, Bodies, no_body, always, guarded, Rows, no_row, row, Rest, Trial, Focus, falling, choose, entered, goes_on, next_todo, next_row, tests, told}
+use Rattle.gh_rules.specs.Rules.{Argument, built, Bodies, no_body, always, guarded, Rows, no_row, row, Rest, Trial, Focus, falling, choose, all_entered, goes_on, next_todo, next_row, tests, told}
 
 none_some : {A : Type 0} {a : A} → None ≡ Some a → ⊥
 none_some h = cc
@@ -189,8 +189,8 @@ enters p stack out s t ρ (at_row k _ same e) left =
     let put = closing.put_groups own closing.empty own in
     let bs = closing.close_bodies (closing.close_bodies k.bodies hidden) put in
     let has : act p s ≡ kernel.choose bs k.rest stack out = ap (act p) e ∙ at_todo p stack out k [] (same.todo ∙ ap in_source left) in
-    subst (λ s. Beside stack out s (choose t.bodies (entered t.binds ρ) t.rest)) (sym has)
-    (chosen bs t.bodies k.rest t.rest (entered t.binds ρ) stack out (closed_same (closing.close_bodies k.bodies hidden) t.bodies put (closed_same k.bodies t.bodies hidden same.bodies)) same.rest)
+    subst (λ s. Beside stack out s (choose t.bodies (all_entered t.binds ρ) t.rest)) (sym has)
+    (chosen bs t.bodies k.rest t.rest (all_entered t.binds ρ) stack out (closed_same (closing.close_bodies k.bodies hidden) t.bodies put (closed_same k.bodies t.bodies hidden same.bodies)) same.rest)
 
 pub decides_guard : Decides
 decides_guard e more k others r σ stack out s h same = (refl, chosen more others k r σ stack out h same)

@@ -13,7 +13,7 @@ use Rattle.gh_kernel.specs.Steps.{act, give, supply}
 use Rattle.gh_kernel.specs.Terms.{Pat, pcon, no_pat, pat, Exprs}
 use Rattle.gh_kernel.specs.Terms as terms
 use Rattle.gh_rules.specs.Beside.{sources, SameBodies, SameRows, SameRest, Beside}
-use Rattle.gh_rules.specs.Rules.{Argument, taken, built, literal, Bodies, Rows, Rest, Trial, Focus, matching, begin, choose, entered, goes_on, next, tests, told}
+use Rattle.gh_rules.specs.Rules.{Argument, taken, built, literal, Bodies, Rows, Rest, Trial, Focus, matching, begin, choose, all_entered, goes_on, next, tests, told}
 
 -- a match begins with its first row
 abbrev pub Begins : Type 0
@@ -50,7 +50,7 @@ Asks =
 abbrev pub Enters : Type 0
 Enters =
     (p : Program) (stack : List Waiting) (out : List ℕ) (s : State) (t : Trial) (ρ : core_closing.Env)
-    → Beside stack out s (matching t) → t.todo ≡ [] → Beside stack out (act p s) (choose t.bodies (entered t.binds ρ) t.rest)
+    → Beside stack out s (matching t) → t.todo ≡ [] → Beside stack out (act p s) (choose t.bodies (all_entered t.binds ρ) t.rest)
 
 -- a guard that holds gives its body, and one that fails the bodies after it and then the rows
 abbrev pub Decides : Type 0

@@ -24,10 +24,10 @@ pub data Bodies : Type 0 where
   always : (e : Term) (rest : Bodies) → Bodies
   guarded : (g e : Term) (rest : Bodies) → Bodies
 
--- rows; the groups of a row are one list of bindings, which is empty where the row has none
+-- rows; the groups of a row are lists of bindings, each in the scope of those before it
 pub data Rows : Type 0 where
   no_row : Rows
-  row : (ps : Pats Span) (bs : Binds) (gs : Bodies) (rest : Rows) → Rows
+  row : (ps : Pats Span) (bs : List Binds) (gs : Bodies) (rest : Rows) → Rows
 
 -- what is matched: a term of core, and what it is in the language that the rows come from, which is only carried along
 pub record Argument : Type 0 where
@@ -53,7 +53,7 @@ pub record Rest : Type 0 where
 pub record Trial : Type 0 where
   pub todo : List (Pat Span × Argument)
   pub bound : Env
-  pub binds : Binds
+  pub binds : List Binds
   pub bodies : Bodies
   pub rest : Rest
 
@@ -88,6 +88,11 @@ entered bs σ =
     let hidden = without σ (binds_name bs) in
     let own = close_binds bs hidden in
     λ y. first_of (hidden y) (put_rec own empty own y)
+
+-- the names of all groups of a row, each group in the scope of those before it
+abbrev pub all_entered : List Binds → Env → Env
+all_entered [] σ = σ
+all_entered (bs ∷ rest) σ = all_entered rest (entered bs σ)
 
 abbrev pub goes_on : List (Pat Span × Argument) → Env → Trial → Focus
 goes_on todo σ t = matching (record { todo = todo; bound = σ; binds = t.binds; bodies = t.bodies; rest = t.rest })
@@ -186,7 +191,7 @@ module _ (p : Program) (nt : Origin → Bool) (limit : ℕ) (otherwise : Term) w
     moves : {facts : List (Argument × Value)} {w : ℕ} {f : Focus} {t : Term} (v i : ℕ) (f' : Focus) (u : Term) → next nt f ≡ Some f' → Unsettled t → i ≤ 200 → (1 ≤ i) ⊎ (v < w) → Reduces p i t u → Follows facts v f' u → Follows facts w f t
     -- the groups are entered, over names that are the same up to marks
     enters : {facts : List (Argument × Value)} {w : ℕ} {f : Focus} {t : Term} (v i : ℕ) (r : Trial) (ρ : Env) (u : Term) → f ≡ matching r → r.todo ≡ [] → Unsettled t → i ≤ 200 → (1 ≤ i) ⊎ (v < w) → Agree limit ρ r.bound → Reduces p i t u
-        → Follows facts v (choose r.bodies (entered r.binds ρ) r.rest) u → Follows facts w f t
+        → Follows facts v (choose r.bodies (all_entered r.binds ρ) r.rest) u → Follows facts w f t
     -- a newtype's pattern takes the contents of its argument, which is the same up to marks
     takes : {facts : List (Argument × Value)} {w : ℕ} {f : Focus} {t : Term} (v i : ℕ) (n : Span) (c : Origin) (q : Pat Span) (a : Argument) (todo : List (Pat Span × Argument)) (r : Trial) (s u : Term)
         → f ≡ matching r → r.todo ≡ (pcon n c (pat q no_pat), a) ∷ todo → nt c ≡ true → Unsettled t → i ≤ 200 → (1 ≤ i) ⊎ (v < w) → Reduces p i t u → opened s ≡ opened a.term

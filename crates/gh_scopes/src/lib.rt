@@ -19,6 +19,8 @@ mod tables;
 mod types;
 
 pub use linking::link_summaries;
+pub use table::{Table, table_of};
+pub use tables::Found;
 pub use types::{
     Definition, Import, Linked, Listed, ListedKind, Parts, Scope, ScopeEntry, Selection, Summary,
     Used,

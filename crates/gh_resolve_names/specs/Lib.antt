@@ -1,0 +1,4 @@
+pub mod Misuses
+pub mod Numbered
+pub mod Written
+pub mod Standing

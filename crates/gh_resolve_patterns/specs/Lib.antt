@@ -1,0 +1,4 @@
+pub mod Variables
+pub mod Patterns
+pub mod Spans
+pub mod LeftSides

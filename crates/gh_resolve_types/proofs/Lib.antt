@@ -1,0 +1,3 @@
+pub mod TypesAt
+pub mod VariablesAt
+pub mod Lengths

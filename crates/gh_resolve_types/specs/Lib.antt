@@ -1,0 +1,2 @@
+pub mod TypeVariables
+pub mod Types
