@@ -1,5 +1,5 @@
 -- Small lists of declarations, with where the rules fail.
-use Rattle.std.proofs.Common.{◌≡◌, ℕ, List, [], ◌∷◌, Option, Some, None, refl}
+use Rattle.std.proofs.Common.{◌≡◌, ℕ, ◌+◌, List, [], ◌∷◌, Some, None, refl}
 use Rattle.gh_base.specs.declared.names.NameId.{NameId}
 use Rattle.gh_base.specs.declared.place.Span.{Span}
 use Rattle.gh_declarations.specs.declared.named.Named.{Named}
