@@ -12,3 +12,4 @@ mod tops;
 
 pub use first::limits;
 pub use law::answers_the_first;
+pub use same_types::same_type;

@@ -1,0 +1,7 @@
+use Rattle.std.proofs.Common.{◌≡◌, ◌++◌, take}
+use Rattle.std.specs.List.{flat_map}
+use Rattle.gh_declarations.specs.Tops.{item_at, declared_in_item}
+use Rattle.gh_declarations.proofs.first.add_next_declared.Given as goal
+
+abbrev pub invariant-loop-next : goal.invariant-loop-next
+invariant-loop-next l = l.list ≡ l.initial.list ++ flat_map (λ x. declared_in_item (item_at x)) (take l.next-index l.items)
