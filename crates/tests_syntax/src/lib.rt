@@ -10,6 +10,8 @@ mod lexer;
 #[cfg(test)]
 mod limits;
 #[cfg(test)]
+mod modules;
+#[cfg(test)]
 mod nested;
 #[cfg(test)]
 mod parse_exps;
